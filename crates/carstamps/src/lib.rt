@@ -1,0 +1,6 @@
+//! Table: the stamps by which register values are ordered.
+#![tactic(auto)]
+
+mod carstamp;
+
+pub use carstamp::Carstamp;

@@ -1,0 +1,78 @@
+//! What a valid pipeline file says.
+
+use crate::script::Script;
+use crate::table::NameTable;
+use rss_names::{Name, Seq, ServiceId, ShardId, StageId, Target};
+
+/// What a valid pipeline file says. Every list stands in file order; `services` in the order of
+/// services.
+#[derive(Debug, Drop)]
+pub struct Config {
+    /// The number of lost messages, 1 to 8, at which an owner gives a target up.
+    pub tries: u8,
+    /// The greatest number of steps in the log, 1 to 200,000.
+    pub max_steps: u32,
+    /// The number of drivers, 1 to 16.
+    pub drivers: u8,
+    pub services: Seq<ServiceDef>,
+    pub registers: NameTable,
+    /// The service of each register.
+    pub register_services: Seq<ServiceId>,
+    pub shards: NameTable,
+    /// The service of each shard.
+    pub shard_services: Seq<ServiceId>,
+    /// The keys of all shards.
+    pub keys: NameTable,
+    /// The shard of each key.
+    pub homes: Seq<ShardId>,
+    pub pipes: NameTable,
+    /// The ends of each pipe.
+    pub pipe_ends: Seq<PipeEnds>,
+    pub stages: NameTable,
+    /// What each stage runs.
+    pub bodies: Seq<Body>,
+    pub withholds: Seq<Withhold>,
+    pub kills: Seq<KillAt>,
+}
+
+/// A service: its name, and the number of its replicas, which is 3, 5 or 7, or 0 for a service of
+/// transactions.
+#[derive(Clone, Copy, Debug, PartialEq, Eq)]
+pub struct ServiceDef {
+    pub name: Name,
+    pub id: ServiceId,
+    pub replicas: u8,
+}
+
+/// Who puts into a pipe, who takes from it, and how many chunks it holds, 1 to 64.
+#[derive(Clone, Copy, Debug, PartialEq, Eq)]
+pub struct PipeEnds {
+    pub giver: StageId,
+    pub taker: StageId,
+    pub capacity: u8,
+}
+
+/// What a stage runs. `earliest_end`, at most 1,000,000 microseconds, is how far ahead a
+/// transaction may end at the earliest.
+#[derive(Debug, PartialEq, Eq, Drop)]
+pub struct Body {
+    pub script: Script,
+    pub earliest_end: u32,
+}
+
+/// The requests of a stage to a target that are lost by order of the file: `count` of them, from
+/// number `first` on, counted from 1 in the order sent.
+#[derive(Clone, Copy, Debug, PartialEq, Eq)]
+pub struct Withhold {
+    pub stage: StageId,
+    pub target: Target,
+    pub first: u32,
+    pub count: u32,
+}
+
+/// A stage that is killed by order of the file in place of its Act of that number.
+#[derive(Clone, Copy, Debug, PartialEq, Eq)]
+pub struct KillAt {
+    pub stage: StageId,
+    pub act: u32,
+}

@@ -1,0 +1,44 @@
+//! Histories: what stages did, in the order in which it happened.
+
+use crate::op::{Op, Reply};
+use rss_names::{CallId, Seq, StageId};
+
+/// One entry of a history.
+#[derive(Debug, PartialEq, Eq, Drop)]
+pub enum Entry {
+    /// A stage begins a call.
+    Begin(CallId, StageId, Op),
+    /// A call ends with its reply.
+    End(CallId, Reply),
+    /// A stage gives a message away.
+    Give(StageId, Token),
+    /// A stage gets a message.
+    Get(StageId, Token),
+    /// A stage is over.
+    Over(StageId, How),
+}
+
+/// A message from stage to stage. Each is given at most once.
+#[derive(Clone, Copy, Debug, PartialEq, Eq)]
+pub enum Token {
+    /// The start of a spawned stage.
+    Spawn(StageId),
+    /// A chunk, or the end mark, of a pipe, by its number in the pipe.
+    Chunk(u8, u32),
+    /// The exit of a stage.
+    Exit(StageId),
+}
+
+/// How a stage is over.
+#[derive(Clone, Copy, Debug, PartialEq, Eq)]
+pub enum How {
+    Exited,
+    Killed,
+    /// A call or a fence could not reach a shard or a quorum.
+    Unavailable,
+}
+
+pub type History = Seq<Entry>;
+
+/// An order of calls, from the first to the last.
+pub type Candidate = Seq<CallId>;

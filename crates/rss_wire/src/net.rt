@@ -1,0 +1,1 @@
+//! The net: every message that was ever sent, and what became of it.
