@@ -1,0 +1,12 @@
+use Rattle.std.proofs.Common.{◌+◌, ◌-◌, ◌≤◌, vec_len}
+use Rattle.std.specs.Io.KnownBytes.{Consumes}
+use Rattle.rss_io.proofs.reading.read_all.Given as goal
+
+abbrev pub invariant-loop-piece : goal.invariant-loop-piece
+invariant-loop-piece g l =
+    Consumes (g.S.Source.left l.fn.source) (g.S.Source.left l.source) l.taken.items
+    × (vec_len l.taken ≤ l.limit + 1)
+    × (g.S.Source.source_faults l.fn.source ≤ g.S.Source.source_faults l.source)
+
+abbrev pub decreases-loop-piece : goal.decreases-loop-piece
+decreases-loop-piece g l = l.limit + 1 - vec_len l.taken

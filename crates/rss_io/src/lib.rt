@@ -1,0 +1,23 @@
+//! Code: bytes in and bytes out: sources, sinks, and a whole text through either.
+#![tactic(auto)]
+
+mod calls;
+mod failed;
+mod mem_sink;
+mod mem_source;
+mod reading;
+mod sink;
+mod source;
+mod std_sink;
+mod std_source;
+mod writing;
+
+pub use failed::Failed;
+pub use mem_sink::MemSink;
+pub use mem_source::MemSource;
+pub use reading::{ReadError, read_all};
+pub use sink::Sink;
+pub use source::Source;
+pub use std_sink::StdSink;
+pub use std_source::StdSource;
+pub use writing::{WriteFault, write_all};
