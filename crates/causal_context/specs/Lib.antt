@@ -1,0 +1,4 @@
+pub mod Services
+pub mod Marks
+pub mod LastView
+pub mod ContextView

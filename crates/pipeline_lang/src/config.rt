@@ -76,3 +76,21 @@ pub struct KillAt {
     pub stage: StageId,
     pub act: u32,
 }
+
+impl Config {
+    ghost use Rattle.std.specs.Prelude.{◌≡◌};
+    ghost use Rattle.pipeline_lang.specs.Config.{replicas_of};
+
+    /// The number of replicas of a service: 0 for a service of transactions, or one that the file
+    /// lacks.
+    pub fn replicas(&self, service: ServiceId) -> u8
+        ensures { result ≡ replicas_of self.now service }
+    {
+        for def in self.services.as_slice() {
+            if service == def.id {
+                return def.replicas;
+            }
+        }
+        0
+    }
+}

@@ -32,6 +32,7 @@ impl StageId {
         Some(StageId { number })
     }
 
+    /// The number, 1 to 16.
     pub fn number(self) -> u8
         ensures same { result ≡ self }
         ensures low { 1 ≤ result }
@@ -68,6 +69,7 @@ impl ShardId {
         Some(ShardId { number })
     }
 
+    /// The number, 1 to 16.
     pub fn number(self) -> u8
         ensures same { result ≡ self }
         ensures low { 1 ≤ result }
@@ -104,6 +106,7 @@ impl ReplicaId {
         Some(ReplicaId { number })
     }
 
+    /// The number, 1 to 7.
     pub fn number(self) -> u8
         ensures same { result ≡ self }
         ensures low { 1 ≤ result }
@@ -140,6 +143,7 @@ impl CallId {
         Some(CallId { number })
     }
 
+    /// The number, at least 1.
     pub fn number(self) -> u32
         ensures same { result ≡ self }
         ensures low { 1 ≤ result }

@@ -1,6 +1,7 @@
 //! The list type of records: a vector that contracts see as its list of elements.
 
-ghost use Rattle.std.specs.Prelude.{◌≡◌, ◌++◌, [], ◌∷◌, length, IfOk, IfErr, OnOk, OnErr, is_ok};
+ghost use Rattle.std.specs.Prelude.{◌≡◌, ◌++◌, [], ◌∷◌, length, IfOk, IfErr, OnOk, OnErr, IsTrue, ◌↔◌, slice_get};
+ghost use Rattle.std.specs.Option.{option_copied};
 
 use std::alloc::{AllocError, AllocFailed, Global};
 use std::marker::Model;
@@ -50,12 +51,14 @@ impl<T> Seq<T> {
         }
     }
 
+    /// The list of a vector's elements.
     pub fn from_vec(items: Vec<T>) -> Seq<T>
         ensures { result ≡ items.items }
     {
         Seq { items }
     }
 
+    /// The vector of the elements.
     pub fn into_vec(self) -> Vec<T>
         ensures { result.items ≡ self }
     {
@@ -63,16 +66,32 @@ impl<T> Seq<T> {
         items
     }
 
+    /// The elements, in order.
     pub fn as_slice(&self) -> &[T]
         ensures { result.now ≡ self.now }
     {
         self.items.as_slice()
     }
 
+    /// The number of elements.
     pub fn len(&self) -> usize
         ensures { result ≡ length self.now }
     {
         self.items.len()
+    }
+
+    /// Whether there are no elements.
+    pub fn is_empty(&self) -> bool
+        ensures { IsTrue result ↔ (self.now ≡ []) }
+    {
+        self.items.is_empty()
+    }
+
+    /// The element at an index, from 0, if the list is longer.
+    pub fn get(&self, index: usize) -> Option<&T>
+        ensures { option_copied result ≡ slice_get self.now index }
+    {
+        self.items.as_slice().get(index)
     }
 
     /// Appends one element; where memory is wanting it comes back, and the list stays.
@@ -82,6 +101,15 @@ impl<T> Seq<T> {
         ensures value_returned { IfErr result (λ e. e.value ≡ value) }
     {
         self.items.push(value)
+    }
+}
+
+impl<T: Drop> Seq<T> {
+    /// Drops all elements, and keeps the memory.
+    pub fn clear(&mut self)
+        ensures { self.new ≡ [] }
+    {
+        self.items.clear();
     }
 }
 

@@ -2,7 +2,7 @@
 
 use carstamps::Carstamp;
 use causal_context::Dep;
-use rss_names::{Attempt, Key, Seq, ShardId, Target};
+use rss_names::{Attempt, Key, Seq, ShardId};
 
 /// How a coordinator decided an attempt: committed at a time, or aborted.
 #[derive(Clone, Copy, Debug, PartialEq, Eq)]
@@ -179,6 +179,3 @@ pub enum Progress {
     Asleep(Attempt, ShardId),
     Done,
 }
-
-/// The requests that a session sends in one step, in order, each with its target.
-pub type Outbox = Seq<(Target, Request)>;

@@ -1,6 +1,6 @@
 //! Readings of a clock, as in TrueTime (Corbett et al., OSDI 2012).
 
-ghost use Rattle.std.specs.Prelude.{◌≡◌, ◌≤◌, ◌<◌, ◌^◌};
+ghost use Rattle.std.specs.Prelude.{◌≡◌, ◌≤◌, ◌<◌, ◌^◌, SomeIff};
 
 use std::marker::Model;
 
@@ -13,14 +13,45 @@ pub struct Interval {
 }
 
 impl Model for Interval {
-    ghost use Rattle.std.specs.Prelude.{◌≤◌, ◌<◌, ◌^◌};
-    ghost use Rattle.truetime.specs.Reading.{Reading};
+    ghost use Rattle.truetime.specs.Reading.{Reading, IsReading};
 
     ghost Value = { Reading };
 
     ghost view = { λ at. record { earliest = at.earliest; latest = at.latest } };
 
-    ghost invariant = { λ at. (at.earliest ≤ at.latest) × (at.latest < 2 ^ 62) };
+    ghost invariant = { λ at. IsReading (record { earliest = at.earliest; latest = at.latest }) };
 
     ghost inverse = { λ at. record { earliest = at.earliest; latest = at.latest } };
+}
+
+impl Interval {
+    /// The reading from `earliest` to `latest`; none where `earliest` is above `latest`, or `latest`
+    /// is 2^62 or more.
+    pub fn new(earliest: u64, latest: u64) -> Option<Interval>
+        ensures { SomeIff result ((earliest ≤ latest) × (latest < 2 ^ 62))
+            (record { earliest = earliest; latest = latest }) }
+    {
+        if earliest > latest || latest >= 1 << 62 {
+            return None;
+        }
+        Some(Interval { earliest, latest })
+    }
+
+    /// The first moment that the reading allows.
+    pub fn earliest(self) -> u64
+        ensures same { result ≡ self.earliest }
+        ensures order { result ≤ self.latest }
+        ensures bound { result < 2 ^ 62 }
+    {
+        self.earliest
+    }
+
+    /// The last moment that the reading allows.
+    pub fn latest(self) -> u64
+        ensures same { result ≡ self.latest }
+        ensures order { self.earliest ≤ result }
+        ensures bound { result < 2 ^ 62 }
+    {
+        self.latest
+    }
 }

@@ -1,0 +1,31 @@
+//! A message of the net: what it says, and what became of it.
+
+use crate::envelope::Envelope;
+use crate::messages::{Reply, Request};
+
+/// What a message says.
+#[derive(Debug, PartialEq, Eq, Drop)]
+pub enum Body {
+    Request(Request),
+    Reply(Reply),
+}
+
+/// What became of a message.
+#[derive(Clone, Copy, Debug, PartialEq, Eq)]
+pub enum Fate {
+    /// Neither delivered nor lost.
+    Pending,
+    /// Delivered once.
+    Delivered,
+    /// Delivered twice.
+    Repeated,
+    Lost,
+}
+
+/// A message that was sent.
+#[derive(Debug, PartialEq, Eq, Drop)]
+pub struct Message {
+    pub envelope: Envelope,
+    pub body: Body,
+    pub fate: Fate,
+}
