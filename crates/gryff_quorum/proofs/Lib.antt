@@ -1,0 +1,4 @@
+pub mod GreatestHeard
+pub mod RoundRequests
+pub mod OneStamp
+pub mod SmallStamps

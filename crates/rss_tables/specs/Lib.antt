@@ -1,0 +1,4 @@
+pub mod ReplicaRow
+pub mod Round
+pub mod RegisterSession
+pub mod Samples
