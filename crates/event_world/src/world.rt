@@ -1,0 +1,197 @@
+//! The World: a configuration, the machine's state, and the log of the steps that led there.
+
+ghost use Rattle.std.specs.Prelude.{◌≡◌, ◌≤◌, ◌++◌, ◌∷◌, [], OnOk, OnErr, IfOk, IfErr, IsTrue, None, Some, ◌↔◌};
+ghost use Rattle.event_world.specs.World.{Takes, SameWorld, IsNew};
+ghost use Rattle.rss_machine.specs.Built.{is_built};
+ghost use Rattle.rss_machine.specs.Endings.{ending_of, life_state as life_state_of};
+ghost use Rattle.rss_machine.specs.State.{stage_at, session_at};
+ghost use Rattle.rss_machine.specs.Places.{stamp_of as stamp_in, has_ended, is_read};
+ghost use Rattle.rss_machine.specs.Marks.{first_mark};
+ghost use Rattle.event_world.specs.Asked.{round_step_of};
+ghost use Rattle.std.specs.Prelude.{◌+◌, length};
+ghost use Rattle.rss_machine.specs.Refusal.{refusal};
+ghost use Rattle.rss_machine.specs.Run.{run, steps_of, readings_of};
+ghost use Rattle.truetime.specs.Reading.{AreConsistent};
+
+use crate::machine::Machine;
+use crate::standing::life_state;
+use carstamps::Carstamp;
+use pipeline_lang::Config;
+use rss_machine::{Ending, Logged, Stage, StageState, Step, StepRefusal};
+use rss_model::Entry;
+use rss_names::{CallId, Key, StageId};
+use std::alloc::{AllocError, Global};
+use std::marker::Model;
+
+/// The World makes steps one after another. Contracts see its configuration, the machine's state,
+/// the log, and whether there is room for one step more. Its state is always the run of its log.
+#[derive(Drop)]
+pub struct World {
+    config: Config,
+    machine: Machine,
+    log: Vec<Logged>,
+}
+
+impl Model for World {
+    ghost use Rattle.std.specs.Prelude.{◌+◌, ◌&&◌, nat_le, vec_len, vec_capacity};
+    ghost use Rattle.event_world.specs.World.{WorldView};
+
+    ghost Value = { WorldView };
+
+    ghost use Rattle.event_world.specs.Machine.{state_of, has_room};
+    ghost use Rattle.event_world.specs.Kept.{IsKept};
+
+    ghost view = { λ w. record { config = w.config; state = state_of w.machine; log = w.log.items; room = has_room w.machine && nat_le (vec_len w.log + 1) (vec_capacity w.log) } };
+
+    ghost invariant = { λ w. IsKept w.config w.machine w.log.items };
+}
+
+impl World {
+    /// The World before the first step of a file that is built.
+    pub fn new(alloc: Global, config: Config) -> Result<World, AllocError>
+        requires built { IsTrue (is_built config) }
+        requires limit { config.max_steps ≤ 200000 }
+        ensures { IfOk result (λ w. IsNew w config) }
+    {
+        let machine = Machine::new(alloc, &config)?;
+        Ok(World {
+            config,
+            machine,
+            log: Vec::new(alloc),
+        })
+    }
+
+    /// Makes room for a step. Where memory is wanting, nothing but room has changed.
+    pub fn make_room(&mut self, _s: &Step) -> Result<(), AllocError>
+        ensures room { OnOk result (IsTrue self.new.room) }
+        ensures same { SameWorld self.old self.new }
+    {
+        self.log.reserve(1)?;
+        self.machine.make_room()
+    }
+
+    /// Makes a step, or refuses it by the first cause that applies and changes nothing. Takes no
+    /// memory.
+    pub fn step(&mut self, s: &Step, driver: u8) -> Result<(), StepRefusal>
+        requires room { IsTrue self.old.room }
+        ensures taken { OnOk result (Takes self.old self.new s.now driver) }
+        ensures allowed { OnOk result (refusal self.old.config self.old.state s.now ≡ None) }
+        ensures refused { IfErr result (λ e. refusal self.old.config self.old.state s.now ≡ Some e) }
+        ensures unchanged { OnErr result (self.new ≡ self.old) }
+    {
+        if let Some(cause) = self.machine.refusal(&self.config, s) {
+            return Err(cause);
+        }
+        let at = s.at;
+        let _latest = at.latest();
+        self.machine.take(&self.config, s);
+        let logged = Logged { step: *s, driver };
+        self.log.push(logged).unwrap();
+        Ok(())
+    }
+
+    /// Whether the step would be made.
+    pub fn enabled(&self, s: &Step) -> bool
+        ensures { IsTrue result ↔ (refusal self.now.config self.now.state s.now ≡ None) }
+    {
+        self.machine.refusal(&self.config, s).is_none()
+    }
+
+    /// The steps made, with who made them. They lead to the World's state, and some true moment lies
+    /// in all their readings.
+    pub fn log(&self) -> &[Logged]
+        ensures log { result.now ≡ self.now.log }
+        ensures replays { run self.now.config (steps_of self.now.log) ≡ Some self.now.state }
+        ensures consistent { AreConsistent (readings_of (steps_of self.now.log)) }
+    {
+        self.log.as_slice()
+    }
+
+    /// What the stages did, in order.
+    pub fn history(&self) -> &[Entry]
+        ensures { result.now ≡ self.now.state.history }
+    {
+        self.machine.history.as_slice()
+    }
+
+    /// How the run stands.
+    pub fn ending(&self) -> Ending
+        ensures { result ≡ ending_of self.now.config self.now.state }
+    {
+        self.machine.ending(&self.config)
+    }
+
+    /// The configuration that the World was made with.
+    pub fn config(&self) -> &Config
+        ensures { result.now ≡ self.now.config }
+    {
+        &self.config
+    }
+
+    /// The stages, in file order.
+    pub fn stages(&self) -> &[Stage]
+        ensures { result.now ≡ self.now.state.stages }
+    {
+        self.machine.stages.as_slice()
+    }
+
+    /// How a stage stands; one that the file lacks is unborn.
+    pub fn stage_state(&self, stage: StageId) -> StageState
+        ensures { result ≡ life_state_of (stage_at self.now.state stage).life }
+    {
+        let stood = self.machine.stage(stage);
+        life_state(stood.life)
+    }
+
+    /// How many calls have begun. They are numbered from 1.
+    pub fn calls(&self) -> u32
+        ensures { result + 1 ≡ length self.now.state.calls }
+    {
+        (self.machine.calls.len() - 1) as u32
+    }
+
+    /// The register and stamp of a call: Some exactly where some replica has handled its store, or
+    /// the read has ended.
+    pub fn stamp_of(&self, call: CallId) -> Option<(Key, Carstamp)>
+        ensures { result ≡ stamp_in self.now.state call }
+    {
+        self.machine.stamp_of(call)
+    }
+
+    /// The number of the step that sent the call's own first round, or None where there is no such
+    /// call.
+    pub fn round_step(&self, call: CallId) -> Option<u32>
+        ensures { result ≡ round_step_of self.now.state call }
+    {
+        self.machine.round_step(call)
+    }
+
+    /// The first step after which a majority of the replicas held this stamp or a greater one, or
+    /// None where none has.
+    pub fn majority_step(&self, key: Key, stamp: Carstamp) -> Option<u32>
+        ensures { result ≡ first_mark self.now.state.marks key stamp }
+    {
+        self.machine.majority_step(key, stamp)
+    }
+
+    /// Whether a call has ended.
+    pub fn has_ended(&self, call: CallId) -> bool
+        ensures { result ≡ has_ended self.now.state call }
+    {
+        self.machine.has_ended(call)
+    }
+
+    /// Whether a call reads.
+    pub fn is_read(&self, call: CallId) -> bool
+        ensures { result ≡ is_read (session_at self.now.state call).work }
+    {
+        self.machine.is_read(call)
+    }
+
+    /// The number of steps made, which is the length of the log.
+    pub fn steps(&self) -> u32
+        ensures { result ≡ self.now.state.steps }
+    {
+        self.machine.steps
+    }
+}

@@ -1,0 +1,12 @@
+pub mod Looks
+pub mod Runs
+pub mod Walk
+pub mod Clock
+pub mod Sizes
+pub mod Room
+pub mod Ranges
+pub mod Formed
+pub mod Fixes
+pub mod Stamps
+pub mod Shapes
+pub mod Readings

@@ -1,0 +1,84 @@
+-- Runs by their lists of steps: one step more, and how many steps there were.
+use Rattle.std.proofs.Common.{◌≡◌, ℕ, suc, ◌+◌, ◌<◌, ◌≤◌, Bool, true, false, List, [], ◌∷◌, ◌++◌, length, Option, Some, None, refl, ap, ◌∙◌, sym, subst, arith}
+use Rattle.std.proofs.lemmas.Grind.{common_steps}
+use Rattle.std.proofs.lemmas.Bool.{leb-false}
+use Rattle.std.specs.Prelude.{nat_le, if◌then◌else◌}
+use Rattle.pipeline_lang.specs.declared.config.Config.{Config}
+use Rattle.truetime.specs.TrueMoment.{admits}
+use Rattle.rss_machine.specs.State.{State, start}
+use Rattle.rss_machine.specs.Effect.{stepped}
+use Rattle.rss_machine.specs.Refusal.{refusal, kind_refusal}
+use Rattle.rss_machine.specs.Run.{run, run_from, unless_refused, steps_of}
+use Rattle.rss_machine.specs.declared.step.Logged.{Logged}
+use Rattle.rss_machine.specs.declared.step.Step.{Step}
+use Rattle.rss_machine.specs.declared.step.StepRefusal.{StepRefusal}
+use Rattle.rss_machine.specs.declared.step.StepRefusal.TheVariants.{LogFull, Reading}
+
+-- two states that are the same answer are the same
+pub some_same : {A : Type 0} (a b : A) → Some a ≡ Some b → a ≡ b
+some_same a b e = cc
+
+-- an answer is not none
+pub none_some : {A : Type 0} (a : A) → None ≡ Some a → ⊥
+none_some a e = cc
+
+-- what follows a step that was not refused
+pub not_refused : (r : Option StepRefusal) (after : Option State) (s : State) → unless_refused r after ≡ Some s → (r ≡ None) × (after ≡ Some s)
+not_refused None after s e = (refl, e)
+not_refused (Some cause) after s e = absurd (none_some s e)
+
+-- a run of some steps goes on with the others
+pub run_rest : (c : Config) (u : State) (step : Step) (steps : List Step) (s : State) → run_from c u (step ∷ steps) ≡ Some s → (refusal c u step ≡ None) × (run_from c (stepped c u step) steps ≡ Some s)
+unfolding run_from
+run_rest c u step steps s e = not_refused (refusal c u step) (run_from c (stepped c u step) steps) s e
+
+-- a run of no steps ends where it began
+pub run_none : (c : Config) (u s : State) → run_from c u [] ≡ Some s → u ≡ s
+unfolding run_from
+run_none c u s e = some_same u s e
+
+-- a step that is not refused, before a run
+run_before : (c : Config) (u : State) (step : Step) (steps : List Step) (s : State) → refusal c u step ≡ None → run_from c (stepped c u step) steps ≡ Some s → run_from c u (step ∷ steps) ≡ Some s
+unfolding run_from
+run_before c u step steps s r e = rw r e
+
+-- the run of no steps
+run_ends : (c : Config) (u : State) → run_from c u [] ≡ Some u
+unfolding run_from
+run_ends c u = refl
+
+-- a run from any state goes on by a step that is not refused
+pub run_from_more : (c : Config) (steps : List Step) (u s : State) (next : Step) → run_from c u steps ≡ Some s → refusal c s next ≡ None → run_from c u (steps ++ next ∷ []) ≡ Some (stepped c s next)
+run_from_more c [] u s next e r = let q = run_none c u s e in subst (λ (t : State). run_from c t (next ∷ []) ≡ Some (stepped c s next)) (sym q) (run_before c s next [] (stepped c s next) r (run_ends c (stepped c s next)))
+run_from_more c (step ∷ steps) u s next e r =
+    let t = run_rest c u step steps s e in
+    run_before c u step (steps ++ next ∷ []) (stepped c s next) t.0 (run_from_more c steps (stepped c u step) s next t.1 r)
+
+-- a run goes on by a step that is not refused
+pub run_more : (c : Config) (steps : List Step) (s : State) (next : Step) → run c steps ≡ Some s → refusal c s next ≡ None → run c (steps ++ next ∷ []) ≡ Some (stepped c s next)
+unfolding run
+run_more c steps s next e r = run_from_more c steps (start c) s next e r
+
+-- what lets a step pass: there is room, its reading is admitted, and nothing refuses its kind
+pub record Passes (c : Config) (s : State) (step : Step) : Type 0 where
+  pub room : s.steps < c.max_steps
+  pub admitted : admits s.moment step.at ≡ true
+  pub kind : kind_refusal c s step.kind ≡ None
+
+some_none : (cause : StepRefusal) → Some cause ≡ None → ⊥
+some_none cause e = cc
+
+-- a step that is not refused passes
+pub passes : (c : Config) (s : State) (step : Step) → refusal c s step ≡ None → Passes c s step
+unfolding refusal
+passes c s step = by_room (nat_le c.max_steps s.steps) (admits s.moment step.at) refl refl
+  where
+    by_room : (full admitted : Bool) → nat_le c.max_steps s.steps ≡ full → admits s.moment step.at ≡ admitted → (if full then Some LogFull else (if admitted then kind_refusal c s step.kind else Some (Reading record { greatest_earliest = s.moment; latest = step.at.latest }))) ≡ None → Passes c s step
+    by_room true admitted f a e = absurd (some_none _ e)
+    by_room false true f a e = record { room = leb-false c.max_steps s.steps f; admitted = a; kind = e }
+    by_room false false f a e = absurd (some_none _ e)
+
+-- a log grows by a step
+pub steps_grow : (log : List Logged) (l : Logged) → steps_of (log ++ l ∷ []) ≡ steps_of log ++ l.step ∷ []
+steps_grow [] l = refl
+steps_grow (k ∷ log) l = ap (λ (steps : List Step). k.step ∷ steps) (steps_grow log l)

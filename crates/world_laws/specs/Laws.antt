@@ -1,0 +1,45 @@
+-- What holds of every run.
+use Rattle.std.specs.Prelude.{◌≡◌, ℕ, ◌≤◌, List, [], ◌∷◌, ◌++◌, length, Option, Some, None}
+use Rattle.std.specs.List.{All}
+use Rattle.truetime.specs.Reading.{Reading, AreConsistent}
+use Rattle.truetime.specs.TrueMoment.{IsTrueMoment, true_moment}
+use Rattle.pipeline_lang.specs.declared.config.Config.{Config}
+use Rattle.rss_machine.specs.State.{State}
+use Rattle.rss_machine.specs.Effect.{stepped}
+use Rattle.rss_machine.specs.Refusal.{refusal}
+use Rattle.rss_machine.specs.Run.{run, steps_of, readings_of}
+use Rattle.rss_machine.specs.declared.step.Logged.{Logged}
+use Rattle.rss_machine.specs.declared.step.Step.{Step}
+use Rattle.world_laws.specs.Shape.{Shape}
+
+-- a run goes on by a step that is not refused
+abbrev pub RunsGoOn : Type 0
+RunsGoOn =
+    (c : Config) (steps : List Step) (s : State) (next : Step) → run c steps ≡ Some s → refusal c s next ≡ None → run c (steps ++ next ∷ []) ≡ Some (stepped c s next)
+
+-- a run counts its steps, and has no more than the file allows
+abbrev pub RunsAreCounted : Type 0
+RunsAreCounted =
+    (c : Config) (steps : List Step) (s : State) → run c steps ≡ Some s → (s.steps ≡ length steps) × (s.steps ≤ c.max_steps)
+
+-- a log with one more step has its steps and that one
+abbrev pub LogsGrow : Type 0
+LogsGrow = (log : List Logged) (l : Logged) → steps_of (log ++ l ∷ []) ≡ steps_of log ++ l.step ∷ []
+
+-- every run leads to a state of the right shape
+abbrev pub RunsHaveShape : Type 0
+RunsHaveShape = (c : Config) (steps : List Step) (s : State) → run c steps ≡ Some s → Shape c s
+
+-- a reading begins no later than it ends
+abbrev pub IsOrdered : Reading → Type 0
+IsOrdered at = at.earliest ≤ at.latest
+
+-- the readings of a run are consistent
+abbrev pub ReadingsAreConsistent : Type 0
+ReadingsAreConsistent =
+    (c : Config) (steps : List Step) (s : State) → run c steps ≡ Some s → All IsOrdered (readings_of steps) → AreConsistent (readings_of steps)
+
+-- the moment of a state is the true moment after the readings of its run
+abbrev pub MomentsAreTrue : Type 0
+MomentsAreTrue =
+    (c : Config) (steps : List Step) (s : State) → run c steps ≡ Some s → (s.moment ≡ true_moment (readings_of steps)) × IsTrueMoment (readings_of steps) (length steps) s.moment

@@ -1,0 +1,38 @@
+//! The laws of runs. They hold no code: each is the contract of a function that does nothing.
+
+ghost use Rattle.world_laws.specs.Laws.{RunsGoOn, RunsAreCounted, LogsGrow, RunsHaveShape, ReadingsAreConsistent, MomentsAreTrue};
+
+/// A run goes on by every step that is not refused.
+#[tactic(auto, using(crate::proofs::Runs::run_more))]
+pub fn runs_go_on()
+    ensures { RunsGoOn }
+{}
+
+/// A run counts its steps, and has no more of them than the file allows.
+#[tactic(auto, using(crate::proofs::Clock::run_counted))]
+pub fn runs_are_counted()
+    ensures { RunsAreCounted }
+{}
+
+/// A log with one more step has the steps of the log and then that one.
+#[tactic(auto, using(crate::proofs::Runs::steps_grow))]
+pub fn logs_grow()
+    ensures { LogsGrow }
+{}
+
+/// Every run leads to a state whose lists fit each other and whose numbers are in range.
+pub fn runs_have_shape()
+    ensures { RunsHaveShape }
+{}
+
+/// Where each reading begins no later than it ends, the readings of every run are consistent.
+#[tactic(auto, using(crate::proofs::Readings::readings_consistent))]
+pub fn readings_are_consistent()
+    ensures { ReadingsAreConsistent }
+{}
+
+/// The moment of the state that a run leads to is the true moment after the readings of its steps.
+#[tactic(auto, using(crate::proofs::Readings::moment_run, crate::proofs::Readings::moment_true))]
+pub fn moments_are_true()
+    ensures { MomentsAreTrue }
+{}
