@@ -1,6 +1,5 @@
 -- What follows where a step is not refused, and one step of the search for a stage that may act.
-use Rattle.std.proofs.Common.{◌≡◌, ℕ, zero, suc, ◌+◌, ◌-◌, ◌<◌, ◌≤◌, Bool, true, false, ◌||◌, ◌∙◌, Option, Some, None, refl, arith, IsTrue, nat_le, if◌then◌else◌}
-use Rattle.std.proofs.lemmas.Grind.{common_steps}
+use Rattle.std.proofs.Common.{◌≡◌, ℕ, zero, suc, ◌+◌, ◌-◌, ◌<◌, Bool, true, false, ◌||◌, ◌∙◌, Some, None, refl, arith, nat_le, if◌then◌else◌}
 use Rattle.std.proofs.lemmas.Bool.Decides.{nat_tests}
 use Rattle.pipeline_lang.specs.declared.config.Config.{Config}
 use Rattle.truetime.specs.TrueMoment.{admits}
@@ -13,7 +12,7 @@ use Rattle.rss_machine.specs.declared.step.Step.{Step}
 use Rattle.rss_machine.specs.declared.step.StepKind.{StepKind}
 use Rattle.rss_machine.specs.declared.step.StepKind.TheVariants.{Act, Go, Lose, Again, Kill, Stub}
 use Rattle.rss_machine.specs.declared.step.StepRefusal.{StepRefusal}
-use Rattle.rss_machine.specs.declared.step.StepRefusal.TheVariants.{LogFull, Reading}
+use Rattle.rss_machine.specs.declared.step.StepRefusal.TheVariants.{LogFull}
 
 -- one more stage is looked at
 pub any_one_more : (c : Config) (s : State) (n left : ℕ) → 0 < left → any_may_act c s n left ≡ (may_act c s n || any_may_act c s (n + 1) (left - 1))

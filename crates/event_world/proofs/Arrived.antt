@@ -1,11 +1,8 @@
 -- A message keeps its outside and its contents when it is delivered.
-use Rattle.std.proofs.Common.{◌≡◌, ℕ, ◌<◌, ◌≤◌, Bool, true, false, List, [], ◌∷◌, length, get_or, set, Option, Some, None, refl, arith, ◌⊎◌}
+use Rattle.std.proofs.Common.{◌≡◌, ℕ, ◌<◌, ◌≤◌, List, length, get_or, set, arith, ◌⊎◌}
 use Rattle.std.proofs.lemmas.Grind.{common_steps}
 use Rattle.rss_wire.specs.declared.message.Message.{Message}
-use Rattle.rss_wire.specs.declared.messages.Request.{Request}
-use Rattle.rss_wire.specs.declared.messages.Reply.{Reply}
-use Rattle.rss_wire.specs.declared.message.Body.{Body}
-use Rattle.rss_wire.specs.Messages.{message_at, no_message, delivers, is_sent, request_at, reply_at, body_request, body_reply}
+use Rattle.rss_wire.specs.Messages.{message_at, delivers}
 
 -- an element after a set at its own place: the new one, or the old default past the end
 pub get_or_set_here : {X : Type 0} (xs : List X) (i : ℕ) (a d : X) → ((get_or (set xs i a) i d ≡ a) × (i < length xs)) ⊎ ((get_or (set xs i a) i d ≡ get_or xs i d) × (length xs ≤ i))

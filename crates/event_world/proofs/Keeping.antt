@@ -1,12 +1,10 @@
 -- What every World keeps, before the first step and after each one.
-use Rattle.std.proofs.Common.{◌≡◌, ℕ, zero, suc, ◌≤◌, ◌<◌, get_or, Bool, true, false, ◌&&◌, List, [], ◌∷◌, ◌++◌, length, Option, Some, None, refl, arith, ap, ◌∙◌, sym, IsTrue, subst}
-use Rattle.std.proofs.lemmas.Grind.{common_steps}
+use Rattle.std.proofs.Common.{◌≡◌, ℕ, zero, suc, ◌≤◌, ◌<◌, get_or, Bool, true, false, ◌&&◌, List, [], ◌∷◌, ◌++◌, length, Some, None, refl, arith, ap, ◌∙◌, sym, IsTrue, subst}
 use Rattle.pipeline_lang.specs.declared.config.Config.{Config}
 use Rattle.pipeline_lang.specs.declared.config.Body.{Body}
-use Rattle.pipeline_lang.specs.declared.script.Statement.{Statement}
 use Rattle.truetime.specs.Reading.{Reading, IsReading}
-use Rattle.rss_machine.specs.Built.{is_built, are_built_bodies, are_built_services}
-use Rattle.rss_machine.specs.State.{State, start}
+use Rattle.rss_machine.specs.Built.{is_built, are_built_bodies}
+use Rattle.rss_machine.specs.State.{State}
 use Rattle.rss_machine.specs.Effect.{stepped}
 use Rattle.rss_machine.specs.Refusal.{refusal}
 use Rattle.rss_machine.specs.Run.{run, run_from, steps_of, readings_of}

@@ -1,10 +1,9 @@
 -- What a run gives the rows: the machine is ready for every step that is not refused.
-use Rattle.std.proofs.Common.{◌≡◌, ℕ, ◌+◌, ◌-◌, ◌*◌, ◌<◌, ◌≤◌, ◌^◌, Bool, true, false, List, [], ◌∷◌, ◌++◌, length, Option, Some, None, refl, arith, ap, ◌∙◌, sym, subst, if◌then◌else◌}
+use Rattle.std.proofs.Common.{◌≡◌, ℕ, ◌+◌, ◌*◌, ◌<◌, ◌≤◌, ◌^◌, Bool, true, false, List, [], length, Some, None, refl, arith, ◌∙◌, subst, if◌then◌else◌}
 use Rattle.std.proofs.lemmas.Grind.{common_steps}
 use Rattle.pipeline_lang.specs.declared.config.Config.{Config}
 use Rattle.rss_names.specs.declared.service.Target.{Target}
 use Rattle.rss_names.specs.declared.service.Target.TheVariants.{Shard, Replica}
-use Rattle.truetime.specs.Reading.{IsReading}
 use Rattle.rss_wire.specs.declared.message.Body.{Body}
 use Rattle.rss_wire.specs.declared.message.Message.{Message}
 use Rattle.rss_wire.specs.declared.message.Body.TheVariants as body
@@ -17,12 +16,11 @@ use Rattle.gryff_quorum.specs.Heard.{HasSmallStamps, HearsSmall, IsSmall}
 use Rattle.gryff_quorum.proofs.SmallStamps.{greatest_heard_is_small, hearing_keeps_small}
 use Rattle.rss_machine.specs.State.{State, session_at}
 use Rattle.rss_machine.specs.Moves.{replica_of}
-use Rattle.rss_machine.specs.Run.{run, steps_of, readings_of}
+use Rattle.rss_machine.specs.Run.{run}
 use Rattle.rss_machine.specs.declared.step.Step.{Step}
-use Rattle.rss_machine.specs.declared.step.Logged.{Logged}
 use Rattle.rss_machine.specs.declared.step.StepKind.{StepKind}
 use Rattle.rss_machine.specs.declared.step.StepKind.TheVariants.{Act, Go, Lose, Again, Kill, Stub}
-use Rattle.world_laws.specs.Shape.{Shape, StampsAtMost, IsSession, IsSentRight, is_replica, body_number, heard_number}
+use Rattle.world_laws.specs.Shape.{Shape, StampsAtMost, is_replica, body_number}
 use Rattle.world_laws.specs.Shape.{is_request as is_request_body}
 use Rattle.world_laws.proofs.Shapes.{shape_run}
 use Rattle.event_world.specs.declared.machine.Machine.{Machine}

@@ -1,5 +1,5 @@
 -- What the layers above ask of the state.
-use Rattle.std.specs.Prelude.{ℕ, Option, Some, None, slice_get}
+use Rattle.std.specs.Prelude.{ℕ, Option, slice_get}
 use Rattle.std.specs.Option.{option_map}
 use Rattle.rss_machine.specs.State.{State}
 

@@ -1,5 +1,5 @@
 -- What every World keeps.
-use Rattle.std.specs.Prelude.{ℕ, ◌≡◌, ◌≤◌, ◌<◌, List, [], ◌∷◌, length, Some}
+use Rattle.std.specs.Prelude.{◌≡◌, ◌≤◌, List, [], ◌∷◌, length, Some}
 use Rattle.pipeline_lang.specs.declared.config.Config.{Config}
 use Rattle.truetime.specs.Reading.{Reading, IsReading}
 use Rattle.rss_machine.specs.Run.{run, steps_of, readings_of}

@@ -10,7 +10,7 @@ use Rattle.rss_tables.specs.declared.register_session.RegWork.TheVariants as wor
 use Rattle.rss_machine.specs.State.{State}
 use Rattle.rss_machine.specs.Effect.{expr_value, starts}
 use Rattle.rss_machine.specs.Moves.{begins, exits}
-use Rattle.std.specs.Prelude.{List, length}
+use Rattle.std.specs.Prelude.{length}
 use Rattle.event_world.specs.declared.next.Next.{Next}
 use Rattle.event_world.specs.declared.next.Next.TheVariants as next
 

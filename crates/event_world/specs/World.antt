@@ -1,5 +1,5 @@
 -- The World as its callers see it, and what its calls do.
-use Rattle.std.specs.Prelude.{ℕ, ◌≡◌, Bool, true, List, [], ◌∷◌, ◌++◌}
+use Rattle.std.specs.Prelude.{ℕ, ◌≡◌, Bool, List, [], ◌∷◌, ◌++◌}
 use Rattle.pipeline_lang.specs.declared.config.Config.{Config}
 use Rattle.rss_machine.specs.State.{State, start}
 use Rattle.rss_machine.specs.Effect.{stepped}

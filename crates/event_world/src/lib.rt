@@ -14,4 +14,5 @@ mod taking;
 mod world;
 
 pub use rss_machine::{Ending, Logged, StageState, Step, StepKind, StepRefusal};
+pub use standing::life_state;
 pub use world::World;

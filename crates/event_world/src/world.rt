@@ -128,9 +128,10 @@ impl World {
         &self.config
     }
 
-    /// The stages, in file order.
+    /// The stages, in file order, at most sixteen.
     pub fn stages(&self) -> &[Stage]
-        ensures { result.now ≡ self.now.state.stages }
+        ensures same { result.now ≡ self.now.state.stages }
+        ensures few { length result.now ≤ 16 }
     {
         self.machine.stages.as_slice()
     }
@@ -188,9 +189,10 @@ impl World {
         self.machine.is_read(call)
     }
 
-    /// The number of steps made, which is the length of the log.
+    /// The number of steps made, which is the length of the log; at most 200,000.
     pub fn steps(&self) -> u32
-        ensures { result ≡ self.now.state.steps }
+        ensures same { result ≡ self.now.state.steps }
+        ensures few { result ≤ 200000 }
     {
         self.machine.steps
     }
