@@ -1,7 +1,10 @@
 //! Histories: what stages did, in the order in which it happened.
 
+ghost use Rattle.std.specs.Prelude.{◌≡◌, IfOk};
+
 use crate::op::{Op, Reply};
 use rss_names::{CallId, Seq, StageId};
+use std::alloc::{AllocError, Global};
 
 /// One entry of a history.
 #[derive(Debug, PartialEq, Eq, Drop)]
@@ -16,6 +19,21 @@ pub enum Entry {
     Get(StageId, Token),
     /// A stage is over.
     Over(StageId, How),
+}
+
+impl Entry {
+    /// An equal entry.
+    pub fn try_clone(&self, alloc: Global) -> Result<Entry, AllocError>
+        ensures { IfOk result (λ copy. copy ≡ self.now) }
+    {
+        match self {
+            Entry::Begin(call, stage, op) => Ok(Entry::Begin(*call, *stage, op.try_clone(alloc)?)),
+            Entry::End(call, reply) => Ok(Entry::End(*call, reply.try_clone(alloc)?)),
+            Entry::Give(stage, token) => Ok(Entry::Give(*stage, *token)),
+            Entry::Get(stage, token) => Ok(Entry::Get(*stage, *token)),
+            Entry::Over(stage, how) => Ok(Entry::Over(*stage, *how)),
+        }
+    }
 }
 
 /// A message from stage to stage. Each is given at most once.

@@ -2,7 +2,11 @@
 #![tactic(auto)]
 
 mod history;
+mod laws;
 mod op;
 
 pub use history::{Candidate, Entry, History, How, Token};
+pub use laws::{
+    causality_has_no_cycle, nothing_is_regular, read_follows_its_write, scripts_are_followed,
+};
 pub use op::{Formula, Guard, Op, Reply, Shown};

@@ -1,7 +1,10 @@
 //! Operations on keys, and what they reply.
 
+ghost use Rattle.std.specs.Prelude.{◌≡◌, IfOk};
+
 use pipeline_lang::{Compare, Expr};
 use rss_names::{Key, Seq};
+use std::alloc::{AllocError, Global};
 
 /// A value that a transaction writes, over the positions of its own reads, counted from 0.
 pub type Formula = Expr<u8>;
@@ -21,6 +24,23 @@ pub enum Op {
     /// Reads keys and then writes keys of a transaction service; with a guard, writes only where
     /// the guard holds of what it read.
     Txn(Seq<Key>, Option<Guard>, Seq<(Key, Formula)>),
+}
+
+impl Op {
+    /// An equal operation.
+    pub fn try_clone(&self, alloc: Global) -> Result<Op, AllocError>
+        ensures { IfOk result (λ copy. copy ≡ self.now) }
+    {
+        match self {
+            Op::Read(key) => Ok(Op::Read(*key)),
+            Op::Write(key, value) => Ok(Op::Write(*key, *value)),
+            Op::Snap(keys) => Ok(Op::Snap(keys.try_clone(alloc)?)),
+            Op::Txn(keys, guard, writes) => {
+                let keys = keys.try_clone(alloc)?;
+                Ok(Op::Txn(keys, *guard, writes.try_clone(alloc)?))
+            }
+        }
+    }
 }
 
 /// What a call was shown of a key: the value, and the number of the call that wrote it. Writer 0 is

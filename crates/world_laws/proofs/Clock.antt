@@ -1,15 +1,17 @@
 -- The clock: a step is counted once, and no move changes the count or the true moment.
-use Rattle.std.proofs.Common.{◌≡◌, ℕ, zero, suc, ◌+◌, ◌<◌, ◌≤◌, List, [], ◌∷◌, length, Option, Some, None, refl, ap, ◌∙◌, sym, arith}
+use Rattle.std.proofs.Common.{◌≡◌, ℕ, ◌+◌, ◌≤◌, List, [], ◌∷◌, length, Some, None, refl, ap, arith}
 use Rattle.truetime.specs.TrueMoment.{moment_after}
 use Rattle.pipeline_lang.specs.declared.config.Config.{Config}
-use Rattle.rss_machine.specs.State.{State, start, session_at}
-use Rattle.rss_machine.specs.Moves.{ticks, serves, sends_one}
+use Rattle.rss_machine.specs.State.{State, start}
+use Rattle.rss_machine.specs.Moves.{ticks, serves}
 use Rattle.rss_machine.specs.Effect.{stepped}
 use Rattle.rss_machine.specs.Refusal.{refusal}
 use Rattle.rss_machine.specs.Run.{run, run_from}
 use Rattle.rss_machine.specs.declared.step.Step.{Step}
-use Rattle.world_laws.proofs.Runs.{Passes, passes, run_rest, run_none}
-use Rattle.world_laws.proofs.Walk.{owner_of, Based, Keeps, Nothing, walk, handled, starts_each, based_ticks, based_step, based_start}
+use Rattle.world_laws.proofs.Runs.{passes, run_rest, run_none}
+use Rattle.world_laws.proofs.Principle.{owner_of, Based, Keeps, Nothing}
+use Rattle.world_laws.proofs.Based.{handled, starts_each, based_ticks, based_start}
+use Rattle.world_laws.proofs.Walk.{walk, based_step}
 
 -- the clock stands at this step and this moment
 record Stands (k a : ℕ) (s : State) : Type 0 where

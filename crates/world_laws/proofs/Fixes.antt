@@ -1,56 +1,49 @@
 -- Nobody stores dependencies.
-use Rattle.std.proofs.Common.{◌≡◌, ℕ, ◌+◌, ◌-◌, ◌<◌, ◌≤◌, Bool, true, false, List, [], ◌∷◌, ◌++◌, length, get_or, Option, Some, None, refl, ap, ◌∙◌, sym, arith}
-use Rattle.std.proofs.Math.ListN.{set}
+use Rattle.std.proofs.Common.{◌≡◌, ℕ, false, List, Some, refl, ap, sym, arith}
 use Rattle.pipeline_lang.specs.declared.config.Config.{Config}
-use Rattle.rss_names.specs.declared.service.Key.{Key}
 use Rattle.rss_names.specs.declared.service.Target.{Target}
 use Rattle.rss_names.specs.declared.service.Target.TheVariants.{Replica}
 use Rattle.rss_model.specs.declared.op.Op.{Op}
-use Rattle.rss_model.specs.declared.op.Shown.{Shown}
 use Rattle.truetime.specs.Reading.{Reading}
 use Rattle.rss_wire.specs.declared.message.Body.TheVariants as body
 use Rattle.rss_wire.specs.declared.messages.Request.{Request}
 use Rattle.rss_wire.specs.declared.messages.Request.TheVariants as request
 use Rattle.rss_wire.specs.declared.messages.Reply.{Reply}
 use Rattle.rss_wire.specs.Messages.{message_at}
-use Rattle.rss_tables.specs.RegisterSession.{RegSession, phase_request, session_after}
+use Rattle.rss_tables.specs.RegisterSession.{phase_request}
 use Rattle.rss_tables.specs.declared.register_session.RegWork.{RegWork}
 use Rattle.rss_tables.specs.declared.register_session.RegWork.TheVariants as work
 use Rattle.rss_tables.specs.declared.register_session.RegPhase.{RegPhase}
 use Rattle.rss_tables.specs.declared.register_session.RegPhase.TheVariants.{Fixing, Asking, Stamping, Storing, Done}
 use Rattle.rss_machine.specs.State.{State, start, session_at}
 use Rattle.rss_machine.specs.Moves.{ticks, arrives, begins, sends_one, hears_reply, serves, replica_of}
-use Rattle.rss_machine.specs.Effect.{starts}
 use Rattle.rss_machine.specs.Run.{run}
 use Rattle.rss_machine.specs.declared.step.Step.{Step}
 use Rattle.world_laws.specs.Shape.{is_fix, is_fix_work}
-use Rattle.world_laws.proofs.Looks.{looks, get_or_one}
-use Rattle.world_laws.proofs.Walk.{owner_of, stage_of, target_of, Keeps, Makes, Both, both, Nothing, walk_run, handled, starts_each, work_stays}
+use Rattle.world_laws.proofs.Looks.{looks, get_or_one, some_is, none_is_not}
+use Rattle.world_laws.proofs.Principle.{owner_of, target_of, Keeps, Makes, Both, both, Nothing}
+use Rattle.world_laws.proofs.Rows.{work_stays}
+use Rattle.world_laws.proofs.Based.{handled, starts_each}
+use Rattle.world_laws.proofs.Walk.{walk_run}
 use Rattle.world_laws.proofs.Formed.{Formed, formed_keeps, formed_ticks, formed_start}
 
 pub record NoFix (s : State) : Type 0 where
   pub sent : (m : ℕ) → is_fix (message_at s.net m).body ≡ false
   pub work : (call : ℕ) → is_fix_work (session_at s call).work ≡ false
 
-pub some_is : {A : Type 0} (a b : A) → Some a ≡ Some b → a ≡ b
-some_is a b e = cc
-
-pub none_is : {A : Type 0} (a : A) → None ≡ Some a → ⊥
-none_is a e = cc
-
 -- what a work that stores no dependencies asks is no request to store them
 no_fix_request : (call : ℕ) (w : RegWork) (p : RegPhase) (r : Request) → is_fix_work w ≡ false → phase_request call w p ≡ Some r → is_fix (body.Request r) ≡ false
 no_fix_request call (work.Fix deps) p r f e = absurd (grind (arith, f))
-no_fix_request call (work.Read key) Fixing r f e = absurd (none_is r e)
+no_fix_request call (work.Read key) Fixing r f e = absurd (none_is_not r e)
 no_fix_request call (work.Read key) Asking r f e = ap (λ (x : Request). is_fix (body.Request x)) (sym (some_is (request.Ask key) r e))
-no_fix_request call (work.Read key) Stamping r f e = absurd (none_is r e)
-no_fix_request call (work.Read key) (Storing stamp) r f e = absurd (none_is r e)
-no_fix_request call (work.Read key) (Done end) r f e = absurd (none_is r e)
-no_fix_request call (work.Write key value) Fixing r f e = absurd (none_is r e)
-no_fix_request call (work.Write key value) Asking r f e = absurd (none_is r e)
+no_fix_request call (work.Read key) Stamping r f e = absurd (none_is_not r e)
+no_fix_request call (work.Read key) (Storing stamp) r f e = absurd (none_is_not r e)
+no_fix_request call (work.Read key) (Done end) r f e = absurd (none_is_not r e)
+no_fix_request call (work.Write key value) Fixing r f e = absurd (none_is_not r e)
+no_fix_request call (work.Write key value) Asking r f e = absurd (none_is_not r e)
 no_fix_request call (work.Write key value) Stamping r f e = ap (λ (x : Request). is_fix (body.Request x)) (sym (some_is (request.Stamp key) r e))
 no_fix_request call (work.Write key value) (Storing stamp) r f e = ap (λ (x : Request). is_fix (body.Request x)) (sym (some_is (request.Store key value stamp call) r e))
-no_fix_request call (work.Write key value) (Done end) r f e = absurd (none_is r e)
+no_fix_request call (work.Write key value) (Done end) r f e = absurd (none_is_not r e)
 
 f_arrives : (s : State) (m : ℕ) → NoFix s → NoFix (arrives s m)
 f_arrives s m h = record { sent = λ d. (let e = h.sent d in let f = h.sent m in grind (arith, looks, e, f)); work = h.work }

@@ -1,13 +1,14 @@
 -- What is known of every state of a run: sizes and ranges.
-use Rattle.std.proofs.Common.{◌≡◌, ℕ, ◌+◌, ◌<◌, ◌≤◌, List, length, Option, Some}
+use Rattle.std.proofs.Common.{◌≡◌, List, Some}
 use Rattle.pipeline_lang.specs.declared.config.Config.{Config}
 use Rattle.truetime.specs.Reading.{Reading}
-use Rattle.truetime.specs.TrueMoment.{admits}
 use Rattle.rss_machine.specs.State.{State, start}
 use Rattle.rss_machine.specs.Moves.{ticks}
 use Rattle.rss_machine.specs.Run.{run}
 use Rattle.rss_machine.specs.declared.step.Step.{Step}
-use Rattle.world_laws.proofs.Walk.{Keeps, Makes, Both, both, Nothing, Based, based_keeps, based_ticks, based_start, walk_run}
+use Rattle.world_laws.proofs.Principle.{Keeps, Both, both, Nothing, Based}
+use Rattle.world_laws.proofs.Based.{based_keeps, based_ticks, based_start}
+use Rattle.world_laws.proofs.Walk.{walk_run}
 use Rattle.world_laws.proofs.Sizes.{Sizes, sizes_keeps, sizes_ticks, sizes_start}
 use Rattle.world_laws.proofs.Room.{RoomBefore, RoomBetween, RoomAfter, room_makes, room_ticks, room_start}
 use Rattle.world_laws.proofs.Ranges.{Ranges, ranges_keeps, ranges_ticks, ranges_start}
@@ -44,6 +45,5 @@ formed_run c steps s e = walk_run c (Formed c) (Formed c) (Formed c) (λ t at r 
 pub room_run : (c : Config) (steps : List Step) (s : State) → run c steps ≡ Some s → RoomAfter s
 room_run c steps s e =
     let h = walk_run c (Both (Sized c) RoomAfter) (Both (Sized c) RoomBefore) (Both (Sized c) RoomBetween) (λ t at r a g. (sized_ticks c t at g.0, room_ticks t at g.1))
-          (both c (Sized c) RoomBefore RoomBetween RoomAfter (sized_keeps c) (room_makes c)) steps s e (sized_start c, room_start c) in
+    (both c (Sized c) RoomBefore RoomBetween RoomAfter (sized_keeps c) (room_makes c)) steps s e (sized_start c, room_start c) in
     h.1
-

@@ -1,5 +1,8 @@
 pub mod Looks
 pub mod Runs
+pub mod Principle
+pub mod Rows
+pub mod Based
 pub mod Walk
 pub mod Clock
 pub mod Sizes
@@ -10,3 +13,10 @@ pub mod Fixes
 pub mod Stamps
 pub mod Shapes
 pub mod Readings
+pub mod Holders
+pub mod Rises
+pub mod Notes
+pub mod Stores
+pub mod Marked
+pub mod Alone
+pub mod Calls

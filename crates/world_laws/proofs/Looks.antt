@@ -1,5 +1,5 @@
--- How a list is read after a change: lemmas without premises, for `grind`.
-use Rattle.std.proofs.Common.{◌≡◌, ℕ, ◌+◌, ◌-◌, ◌<◌, ◌≤◌, ◌⊎◌, List, [], ◌∷◌, ◌++◌, length, get_or, arith, length-append}
+-- How a list is read after a change: lemmas without premises, for `grind`. And which answers are the same.
+use Rattle.std.proofs.Common.{◌≡◌, ℕ, ◌+◌, ◌-◌, ◌<◌, ◌≤◌, ◌⊎◌, List, [], ◌∷◌, ◌++◌, length, get_or, Option, Some, None, arith, length-append}
 use Rattle.std.proofs.Math.ListN.{set, length-set}
 use Rattle.std.specs.Prelude.{replicate}
 use Rattle.std.proofs.lemmas.Grind.{common_steps}
@@ -22,3 +22,14 @@ pub get_or_repeat : {X : Type 0} (n : ℕ) (y : X) (j : ℕ) (d : X) → ((get_o
 get_or_repeat n y j d = grind (arith, common_steps)
 
 pub ruleset looks = (length-append, length-set, get_or_set, get_or_append, get_or_one)
+
+-- two answers that are the same answer the same
+pub some_is : {A : Type 0} (a b : A) → Some a ≡ Some b → a ≡ b
+some_is a b e = cc
+
+-- an answer is not none
+pub none_is_not : {A : Type 0} (a : A) → None ≡ Some a → ⊥
+none_is_not a e = cc
+
+pub some_is_not : {A : Type 0} (a : A) → Some a ≡ None → ⊥
+some_is_not a e = cc

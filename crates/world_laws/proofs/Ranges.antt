@@ -1,6 +1,5 @@
 -- The numbers that a state names are in range.
-use Rattle.std.proofs.Common.{◌≡◌, ℕ, zero, suc, ◌+◌, ◌-◌, ◌<◌, ◌≤◌, ◌⊎◌, inl, inr, Bool, true, false, List, [], ◌∷◌, ◌++◌, length, get_or, Option, Some, None, refl, ap, ◌∙◌, sym, subst, arith}
-use Rattle.std.proofs.Math.ListN.{set, length-set}
+use Rattle.std.proofs.Common.{◌≡◌, ℕ, ◌-◌, ◌<◌, ◌≤◌, List, length, get_or, Some, None, refl, ◌∙◌, sym, arith}
 use Rattle.pipeline_lang.specs.declared.config.Config.{Config}
 use Rattle.truetime.specs.Reading.{Reading}
 use Rattle.rss_names.specs.declared.service.Key.{Key}
@@ -9,17 +8,17 @@ use Rattle.rss_names.specs.declared.service.Target.{Target}
 use Rattle.rss_names.specs.declared.service.Target.TheVariants.{Replica}
 use Rattle.rss_model.specs.declared.op.Op.{Op}
 use Rattle.rss_model.specs.declared.op.Shown.{Shown}
-use Rattle.rss_wire.specs.declared.message.Body.TheVariants as body
 use Rattle.rss_wire.specs.declared.messages.Request.{Request}
 use Rattle.rss_wire.specs.declared.messages.Reply.{Reply}
-use Rattle.rss_wire.specs.Messages.{message_at, no_message}
 use Rattle.rss_tables.specs.declared.register_session.RegWork.{RegWork}
-use Rattle.rss_machine.specs.State.{State, start, stage_at, call_at, session_at, built_replicas, no_call, no_stage, no_currents, opening_stage}
-use Rattle.rss_machine.specs.Moves.{ticks, arrives, begins, sends_one, forgets, hears_reply, ends_call, serves, notes_store, exits, replica_of}
+use Rattle.rss_machine.specs.State.{State, start, stage_at, call_at, session_at, built_replicas}
+use Rattle.rss_machine.specs.Moves.{ticks, arrives, begins, sends_one, forgets, hears_reply, ends_call, serves, notes_store, exits}
 use Rattle.rss_machine.specs.Effect.{starts}
-use Rattle.world_laws.specs.Shape.{IsSession, IsSentRight, is_replica}
-use Rattle.world_laws.proofs.Looks.{looks, get_or_one, get_or_repeat}
-use Rattle.world_laws.proofs.Walk.{owner_of, stage_of, target_of, exchange_of, Makes, Both, Based, Comes, handled, starts_each, none_is_not, waiting_is_there, no_current}
+use Rattle.world_laws.specs.Shape.{IsSentRight}
+use Rattle.world_laws.proofs.Looks.{looks, get_or_one, get_or_repeat, none_is_not}
+use Rattle.world_laws.proofs.Principle.{owner_of, stage_of, target_of, Makes, Both, Based}
+use Rattle.world_laws.proofs.Rows.{waiting_is_there, no_current}
+use Rattle.world_laws.proofs.Based.{handled, starts_each}
 use Rattle.world_laws.proofs.Sizes.{Sizes}
 
 pub record Ranges (s : State) : Type 0 where
@@ -68,8 +67,8 @@ n_starts : (c : Config) (s : State) (call n : ℕ) → 0 < call → call < lengt
 n_starts c s call n z l f g h =
     let x = (g.session call).replicas in
     let q = starts_each (λ t. Ranges t × (length t.stages ≡ length s.stages) × (length t.replicas ≡ built_replicas)) s call n l
-          (λ t i r j p o e w. (n_sends t call n (session_at s call).service i r z j (omega (arith, waiting_is_there s n call f, w.1)) p (omega (arith, o, x, w.2)) w.0, w.1, w.2))
-          (h, refl, g.replicas) in
+    (λ t i r j p o e w. (n_sends t call n (session_at s call).service i r z j (omega (arith, waiting_is_there s n call f, w.1)) p (omega (arith, o, x, w.2)) w.0, w.1, w.2))
+    (h, refl, g.replicas) in
     q.0
 
 -- at the start no stage is in a call, and no call awaits an exchange

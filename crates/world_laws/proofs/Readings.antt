@@ -1,10 +1,9 @@
 -- The readings of a run are consistent, and its state keeps their true moment.
-use Rattle.std.proofs.Common.{◌≡◌, ℕ, zero, suc, ◌+◌, ◌<◌, ◌≤◌, max, List, [], ◌∷◌, length, Option, Some, None, refl, ap, ◌∙◌, sym, subst, arith, All}
-use Rattle.std.proofs.lemmas.Grind.{common_steps}
+use Rattle.std.proofs.Common.{◌≡◌, ℕ, zero, suc, ◌<◌, ◌≤◌, max, List, [], ◌∷◌, length, Some, refl, ap, ◌∙◌, sym, subst, arith, All}
 use Rattle.std.proofs.lemmas.Bool.{leb-true}
 use Rattle.std.proofs.lemmas.List.{take_all}
-use Rattle.truetime.specs.Reading.{Reading, reading_at, AreConsistent}
-use Rattle.truetime.specs.TrueMoment.{IsTrueMoment, true_moment, moment_after, admits}
+use Rattle.truetime.specs.Reading.{reading_at, AreConsistent}
+use Rattle.truetime.specs.TrueMoment.{IsTrueMoment, true_moment}
 use Rattle.truetime.proofs.Moment.{true_moment_is}
 use Rattle.pipeline_lang.specs.declared.config.Config.{Config}
 use Rattle.rss_machine.specs.State.{State, start}
@@ -13,7 +12,9 @@ use Rattle.rss_machine.specs.Run.{run, run_from, readings_of}
 use Rattle.rss_machine.specs.declared.step.Step.{Step}
 use Rattle.world_laws.specs.Laws.{IsOrdered}
 use Rattle.world_laws.proofs.Runs.{passes, run_rest, run_none}
-use Rattle.world_laws.proofs.Walk.{Based, based_step, based_start}
+use Rattle.world_laws.proofs.Principle.{Based}
+use Rattle.world_laws.proofs.Based.{based_start}
+use Rattle.world_laws.proofs.Walk.{based_step}
 use Rattle.world_laws.proofs.Clock.{clock_step}
 
 pub length-readings_of : (steps : List Step) → length (readings_of steps) ≡ length steps

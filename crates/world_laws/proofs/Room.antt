@@ -1,7 +1,7 @@
 -- How much a step adds: one call, eight messages and one note at most.
-use Rattle.std.proofs.Common.{◌≡◌, ℕ, zero, suc, ◌+◌, ◌-◌, ◌*◌, ◌<◌, ◌≤◌, Bool, true, false, List, [], ◌∷◌, ◌++◌, length, get_or, Option, Some, None, refl, ap, ◌∙◌, sym, subst, arith}
+use Rattle.std.proofs.Common.{◌≡◌, ℕ, zero, suc, ◌+◌, ◌-◌, ◌*◌, ◌≤◌, Bool, true, false, List, [], ◌∷◌, ◌++◌, length, get_or, Option, Some, None, refl, ap, ◌∙◌, arith}
 use Rattle.std.specs.Prelude.{is_some, if◌then◌else◌}
-use Rattle.std.proofs.Math.ListN.{set, length-set}
+use Rattle.std.proofs.Math.ListN.{length-set}
 use Rattle.std.proofs.lemmas.Bool.{cond_both}
 use Rattle.pipeline_lang.specs.declared.config.Config.{Config}
 use Rattle.carstamps.specs.Stamp.{stamp_le, opening_stamp}
@@ -15,16 +15,17 @@ use Rattle.rss_model.specs.declared.op.Shown.{Shown}
 use Rattle.rss_wire.specs.declared.messages.Request.{Request}
 use Rattle.rss_wire.specs.declared.messages.Reply.{Reply}
 use Rattle.rss_wire.specs.declared.messages.RegReply.{RegReply}
-use Rattle.rss_tables.specs.RegisterSession.{RegSession, phase_request, requests_from, round_requests}
+use Rattle.rss_tables.specs.RegisterSession.{phase_request, requests_from, round_requests}
 use Rattle.rss_tables.specs.declared.register_session.RegWork.{RegWork}
 use Rattle.rss_machine.specs.Marks.{majority_stamp, first_mark, noted}
-use Rattle.rss_machine.specs.State.{State, start, stage_at, session_at, built_replicas}
+use Rattle.rss_machine.specs.State.{State, start, stage_at, session_at}
 use Rattle.rss_machine.specs.Moves.{ticks, arrives, begins, sends_one, sends, forgets, hears_reply, ends_call, serves, notes_store, exits}
 use Rattle.rss_machine.specs.Effect.{starts}
 use Rattle.rss_machine.specs.declared.state.Mark.{Mark}
 use Rattle.world_laws.specs.Shape.{IsSession}
 use Rattle.world_laws.proofs.Looks.{looks, get_or_repeat}
-use Rattle.world_laws.proofs.Walk.{owner_of, stage_of, target_of, Makes, Both, Based, handled, handles}
+use Rattle.world_laws.proofs.Principle.{owner_of, stage_of, target_of, Makes, Both, Based}
+use Rattle.world_laws.proofs.Based.{handled}
 use Rattle.world_laws.proofs.Sizes.{Sizes}
 
 -- before a step's moves, once it is counted

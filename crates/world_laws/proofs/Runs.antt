@@ -1,6 +1,5 @@
 -- Runs by their lists of steps: one step more, and how many steps there were.
-use Rattle.std.proofs.Common.{◌≡◌, ℕ, suc, ◌+◌, ◌<◌, ◌≤◌, Bool, true, false, List, [], ◌∷◌, ◌++◌, length, Option, Some, None, refl, ap, ◌∙◌, sym, subst, arith}
-use Rattle.std.proofs.lemmas.Grind.{common_steps}
+use Rattle.std.proofs.Common.{◌≡◌, ◌<◌, Bool, true, false, List, [], ◌∷◌, ◌++◌, Option, Some, None, refl, ap, sym, subst}
 use Rattle.std.proofs.lemmas.Bool.{leb-false}
 use Rattle.std.specs.Prelude.{nat_le, if◌then◌else◌}
 use Rattle.pipeline_lang.specs.declared.config.Config.{Config}
@@ -13,19 +12,12 @@ use Rattle.rss_machine.specs.declared.step.Logged.{Logged}
 use Rattle.rss_machine.specs.declared.step.Step.{Step}
 use Rattle.rss_machine.specs.declared.step.StepRefusal.{StepRefusal}
 use Rattle.rss_machine.specs.declared.step.StepRefusal.TheVariants.{LogFull, Reading}
-
--- two states that are the same answer are the same
-pub some_same : {A : Type 0} (a b : A) → Some a ≡ Some b → a ≡ b
-some_same a b e = cc
-
--- an answer is not none
-pub none_some : {A : Type 0} (a : A) → None ≡ Some a → ⊥
-none_some a e = cc
+use Rattle.world_laws.proofs.Looks.{some_is, none_is_not, some_is_not}
 
 -- what follows a step that was not refused
 pub not_refused : (r : Option StepRefusal) (after : Option State) (s : State) → unless_refused r after ≡ Some s → (r ≡ None) × (after ≡ Some s)
 not_refused None after s e = (refl, e)
-not_refused (Some cause) after s e = absurd (none_some s e)
+not_refused (Some cause) after s e = absurd (none_is_not s e)
 
 -- a run of some steps goes on with the others
 pub run_rest : (c : Config) (u : State) (step : Step) (steps : List Step) (s : State) → run_from c u (step ∷ steps) ≡ Some s → (refusal c u step ≡ None) × (run_from c (stepped c u step) steps ≡ Some s)
@@ -35,7 +27,7 @@ run_rest c u step steps s e = not_refused (refusal c u step) (run_from c (steppe
 -- a run of no steps ends where it began
 pub run_none : (c : Config) (u s : State) → run_from c u [] ≡ Some s → u ≡ s
 unfolding run_from
-run_none c u s e = some_same u s e
+run_none c u s e = some_is u s e
 
 -- a step that is not refused, before a run
 run_before : (c : Config) (u : State) (step : Step) (steps : List Step) (s : State) → refusal c u step ≡ None → run_from c (stepped c u step) steps ≡ Some s → run_from c u (step ∷ steps) ≡ Some s
@@ -65,20 +57,27 @@ pub record Passes (c : Config) (s : State) (step : Step) : Type 0 where
   pub admitted : admits s.moment step.at ≡ true
   pub kind : kind_refusal c s step.kind ≡ None
 
-some_none : (cause : StepRefusal) → Some cause ≡ None → ⊥
-some_none cause e = cc
-
 -- a step that is not refused passes
 pub passes : (c : Config) (s : State) (step : Step) → refusal c s step ≡ None → Passes c s step
 unfolding refusal
 passes c s step = by_room (nat_le c.max_steps s.steps) (admits s.moment step.at) refl refl
   where
     by_room : (full admitted : Bool) → nat_le c.max_steps s.steps ≡ full → admits s.moment step.at ≡ admitted → (if full then Some LogFull else (if admitted then kind_refusal c s step.kind else Some (Reading record { greatest_earliest = s.moment; latest = step.at.latest }))) ≡ None → Passes c s step
-    by_room true admitted f a e = absurd (some_none _ e)
+    by_room true admitted f a e = absurd (some_is_not _ e)
     by_room false true f a e = record { room = leb-false c.max_steps s.steps f; admitted = a; kind = e }
-    by_room false false f a e = absurd (some_none _ e)
+    by_room false false f a e = absurd (some_is_not _ e)
 
 -- a log grows by a step
 pub steps_grow : (log : List Logged) (l : Logged) → steps_of (log ++ l ∷ []) ≡ steps_of log ++ l.step ∷ []
 steps_grow [] l = refl
 steps_grow (k ∷ log) l = ap (λ (steps : List Step). k.step ∷ steps) (steps_grow log l)
+
+-- the later part of a run
+pub run_from_split : (c : Config) (steps more : List Step) (u s t : State) → run_from c u steps ≡ Some s → run_from c u (steps ++ more) ≡ Some t → run_from c s more ≡ Some t
+run_from_split c [] more u s t e f = subst (λ (v : State). run_from c v more ≡ Some t) (run_none c u s e) f
+run_from_split c (step ∷ steps) more u s t e f =
+    run_from_split c steps more (stepped c u step) s t (run_rest c u step steps s e).1 (run_rest c u step (steps ++ more) t f).1
+
+pub run_split : (c : Config) (steps more : List Step) (s t : State) → run c steps ≡ Some s → run c (steps ++ more) ≡ Some t → run_from c s more ≡ Some t
+unfolding run
+run_split c steps more s t e f = run_from_split c steps more (start c) s t e f

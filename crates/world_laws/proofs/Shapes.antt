@@ -1,5 +1,5 @@
 -- Every run leads to a state of the right shape.
-use Rattle.std.proofs.Common.{◌≡◌, ℕ, List, Option, Some}
+use Rattle.std.proofs.Common.{◌≡◌, List, Some}
 use Rattle.pipeline_lang.specs.declared.config.Config.{Config}
 use Rattle.rss_machine.specs.State.{State}
 use Rattle.rss_machine.specs.Run.{run}

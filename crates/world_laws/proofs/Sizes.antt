@@ -1,6 +1,5 @@
 -- How long the lists of a state are, and what each session is.
-use Rattle.std.proofs.Common.{◌≡◌, ℕ, zero, suc, ◌+◌, ◌-◌, ◌<◌, ◌≤◌, Bool, true, false, List, [], ◌∷◌, ◌++◌, length, get_or, Option, Some, None, refl, ap, ◌∙◌, sym, subst, arith}
-use Rattle.std.specs.Prelude.{replicate}
+use Rattle.std.proofs.Common.{◌≡◌, ℕ, ◌-◌, ◌<◌, List, length, Option, Some, None, refl, ◌∙◌, arith}
 use Rattle.std.proofs.Math.ListN.{set, length-set}
 use Rattle.std.proofs.lemmas.Bool.{cond_both}
 use Rattle.std.proofs.lemmas.List.{length-replicate}
@@ -18,11 +17,12 @@ use Rattle.rss_tables.specs.RegisterSession.{RegSession, reply_cell, reached, se
 use Rattle.rss_tables.specs.declared.register_session.RegWork.{RegWork}
 use Rattle.rss_tables.specs.declared.register_session.RegPhase.{RegPhase}
 use Rattle.rss_tables.specs.declared.register_session.RegPhase.TheVariants.{Fixing, Asking, Stamping, Storing, Done}
-use Rattle.rss_machine.specs.State.{State, start, call_at, session_at, register_service, built_replicas, nobody_cut, opening_stage}
+use Rattle.rss_machine.specs.State.{State, start, call_at, session_at, built_replicas, opening_stage}
 use Rattle.rss_machine.specs.Moves.{ticks, arrives, begins, sends_one, forgets, hears_reply, ends_call, serves, notes_store, exits, replica_of, slot_of}
 use Rattle.world_laws.specs.Shape.{IsSession}
 use Rattle.world_laws.proofs.Looks.{looks, get_or_one}
-use Rattle.world_laws.proofs.Walk.{owner_of, stage_of, target_of, Makes, Based, handled, starts_each}
+use Rattle.world_laws.proofs.Principle.{owner_of, stage_of, target_of, Makes, Based}
+use Rattle.world_laws.proofs.Based.{handled, starts_each}
 
 pub record Sizes (c : Config) (s : State) : Type 0 where
   pub session : (call : ℕ) → IsSession (session_at s call)

@@ -1,16 +1,13 @@
 -- No stamp has a greater number than there were steps: each step raises the greatest number by one at most.
-use Rattle.std.proofs.Common.{◌≡◌, ℕ, zero, suc, ◌+◌, ◌-◌, ◌<◌, ◌≤◌, max, Bool, true, false, List, [], ◌∷◌, ◌++◌, length, get_or, Option, Some, None, refl, ap, ◌∙◌, sym, subst, arith}
-use Rattle.std.specs.Prelude.{replicate, if◌then◌else◌}
+use Rattle.std.proofs.Common.{◌≡◌, ℕ, suc, ◌-◌, ◌<◌, ◌≤◌, Bool, true, false, List, [], ◌∷◌, length, get_or, Option, Some, None, refl, ap, sym, subst, arith}
 use Rattle.std.proofs.Math.ListN.{set}
 use Rattle.std.proofs.lemmas.Bool.{cond_both}
 use Rattle.pipeline_lang.specs.declared.config.Config.{Config}
 use Rattle.rss_names.specs.declared.service.Key.{Key}
 use Rattle.rss_names.specs.declared.service.Target.{Target}
 use Rattle.rss_names.specs.declared.service.Target.TheVariants.{Replica}
-use Rattle.carstamps.specs.declared.carstamp.Carstamp.{Carstamp}
-use Rattle.carstamps.specs.Stamp.{stamp_lt, next_stamp, opening_stamp}
+use Rattle.carstamps.specs.Stamp.{stamp_lt}
 use Rattle.rss_model.specs.declared.op.Op.{Op}
-use Rattle.rss_model.specs.declared.op.Shown.{Shown}
 use Rattle.truetime.specs.Reading.{Reading}
 use Rattle.rss_wire.specs.declared.message.Body.{Body}
 use Rattle.rss_wire.specs.declared.message.Body.TheVariants as body
@@ -20,22 +17,24 @@ use Rattle.rss_wire.specs.declared.messages.Request.TheVariants as request
 use Rattle.rss_wire.specs.declared.messages.Reply.{Reply}
 use Rattle.rss_wire.specs.declared.messages.Reply.TheVariants as reply
 use Rattle.rss_wire.specs.Messages.{message_at}
-use Rattle.rss_tables.specs.ReplicaRow.{opening_cell, held_at, accept, replica_after, held_reply, replica_reply}
+use Rattle.rss_tables.specs.ReplicaRow.{opening_cell, held_at, accept, replica_after, replica_reply}
 use Rattle.rss_tables.specs.Round.{Round, hears, was_heard, is_reached, greater_cell, greatest_after, greatest_heard, is_agreed}
 use Rattle.rss_tables.specs.RegisterSession.{RegSession, reply_cell, phase_request, found_cell, read_dep, read_end, reached, first_phase, session_after}
 use Rattle.rss_tables.specs.declared.register_session.RegWork.{RegWork}
 use Rattle.rss_tables.specs.declared.register_session.RegWork.TheVariants as work
 use Rattle.rss_tables.specs.declared.register_session.RegPhase.{RegPhase}
 use Rattle.rss_tables.specs.declared.register_session.RegPhase.TheVariants.{Fixing, Asking, Stamping, Storing, Done}
-use Rattle.rss_machine.specs.State.{State, start, session_at, opening_replica}
+use Rattle.rss_machine.specs.State.{State, start, session_at}
 use Rattle.rss_machine.specs.Moves.{ticks, arrives, begins, sends_one, hears_reply, serves, exits, replica_of}
 use Rattle.rss_machine.specs.Effect.{starts}
 use Rattle.rss_machine.specs.Run.{run}
 use Rattle.rss_machine.specs.declared.step.Step.{Step}
 use Rattle.world_laws.specs.Shape.{is_fix, body_number, heard_number, dep_number, end_number, phase_number, StampsAtMost}
-use Rattle.world_laws.proofs.Looks.{looks, get_or_one, get_or_repeat}
-use Rattle.world_laws.proofs.Walk.{owner_of, stage_of, target_of, Makes, Both, both, handled, starts_each, walk_run}
-use Rattle.world_laws.proofs.Fixes.{some_is, none_is, NoFix, Fixed, fixed_keeps, fixed_ticks, fixed_start}
+use Rattle.world_laws.proofs.Looks.{looks, get_or_one, get_or_repeat, some_is, none_is_not}
+use Rattle.world_laws.proofs.Principle.{owner_of, target_of, Makes, Both, both}
+use Rattle.world_laws.proofs.Based.{handled, starts_each}
+use Rattle.world_laws.proofs.Walk.{walk_run}
+use Rattle.world_laws.proofs.Fixes.{NoFix, Fixed, fixed_keeps, fixed_ticks, fixed_start}
 
 accept_number : (b : ℕ) (cells : List RegReply) (key : Key) (cell : RegReply) → ((i : ℕ) → (get_or cells i opening_cell).stamp.number ≤ b) → cell.stamp.number ≤ b → (i : ℕ) → (get_or (accept cells key cell) i opening_cell).stamp.number ≤ b
 accept_number b cells key cell h l i =
@@ -144,20 +143,20 @@ session_number b x from r l h =
 -- what a phase asks tells no greater stamp
 request_number : (b call : ℕ) (w : RegWork) (p : RegPhase) (r : Request) → phase_number p ≤ b → phase_request call w p ≡ Some r → body_number (body.Request r) ≤ b
 request_number b call (work.Fix deps) Fixing r l e = let q = ap (λ (x : Request). body_number (body.Request x)) (some_is (request.Fix deps) r e) in omega (arith, q)
-request_number b call (work.Fix deps) Asking r l e = absurd (none_is r e)
-request_number b call (work.Fix deps) Stamping r l e = absurd (none_is r e)
-request_number b call (work.Fix deps) (Storing stamp) r l e = absurd (none_is r e)
-request_number b call (work.Fix deps) (Done end) r l e = absurd (none_is r e)
-request_number b call (work.Read key) Fixing r l e = absurd (none_is r e)
+request_number b call (work.Fix deps) Asking r l e = absurd (none_is_not r e)
+request_number b call (work.Fix deps) Stamping r l e = absurd (none_is_not r e)
+request_number b call (work.Fix deps) (Storing stamp) r l e = absurd (none_is_not r e)
+request_number b call (work.Fix deps) (Done end) r l e = absurd (none_is_not r e)
+request_number b call (work.Read key) Fixing r l e = absurd (none_is_not r e)
 request_number b call (work.Read key) Asking r l e = let q = ap (λ (x : Request). body_number (body.Request x)) (some_is (request.Ask key) r e) in omega (arith, q)
-request_number b call (work.Read key) Stamping r l e = absurd (none_is r e)
-request_number b call (work.Read key) (Storing stamp) r l e = absurd (none_is r e)
-request_number b call (work.Read key) (Done end) r l e = absurd (none_is r e)
-request_number b call (work.Write key value) Fixing r l e = absurd (none_is r e)
-request_number b call (work.Write key value) Asking r l e = absurd (none_is r e)
+request_number b call (work.Read key) Stamping r l e = absurd (none_is_not r e)
+request_number b call (work.Read key) (Storing stamp) r l e = absurd (none_is_not r e)
+request_number b call (work.Read key) (Done end) r l e = absurd (none_is_not r e)
+request_number b call (work.Write key value) Fixing r l e = absurd (none_is_not r e)
+request_number b call (work.Write key value) Asking r l e = absurd (none_is_not r e)
 request_number b call (work.Write key value) Stamping r l e = let q = ap (λ (x : Request). body_number (body.Request x)) (some_is (request.Stamp key) r e) in omega (arith, q)
 request_number b call (work.Write key value) (Storing stamp) r l e = let q = ap (λ (x : Request). body_number (body.Request x)) (some_is (request.Store key value stamp call) r e) in omega (arith, q, l)
-request_number b call (work.Write key value) (Done end) r l e = absurd (none_is r e)
+request_number b call (work.Write key value) (Done end) r l e = absurd (none_is_not r e)
 
 first_number : (w : RegWork) → phase_number (first_phase w) ≡ 0
 first_number (work.Fix deps) = refl
@@ -234,8 +233,8 @@ m_starts : (s : State) (call n : ℕ) → call < length s.calls → StampsCounte
 m_starts s call n l h =
     let x = session_at s call in
     let q = starts_each (λ t. (t.steps ≡ s.steps) × StampsAtMost s.steps t) s call n l
-          (λ t i r j p o e w. (w.0, m_sends s.steps t call n (Replica x.service i) r (request_number s.steps x.call x.work x.phase r (h.stamps.phase call) e) w.1))
-          (refl, h.stamps) in
+    (λ t i r j p o e w. (w.0, m_sends s.steps t call n (Replica x.service i) r (request_number s.steps x.call x.work x.phase r (h.stamps.phase call) e) w.1))
+    (refl, h.stamps) in
     record { stamps = subst (λ (k : ℕ). StampsAtMost k (starts s call n)) (sym q.0) q.1 }
 
 pub stamps_makes : (c : Config) → Makes c (Fixed c) StampsBelow StampsCounted StampsCounted
@@ -258,7 +257,7 @@ stamps_makes c = record {
 pub stamps_ticks : (s : State) (at : Reading) → StampsCounted s → StampsBelow (ticks s at)
 stamps_ticks s at h = record { bound = s.steps; counted = omega arith; stamps = record { held = h.stamps.held; sent = h.stamps.sent; heard = h.stamps.heard; phase = h.stamps.phase } }
 
-start_held : (c : Config) (r i : ℕ) → get_or (get_or (start c).replicas r []) i opening_cell ≡ opening_cell
+pub start_held : (c : Config) (r i : ℕ) → get_or (get_or (start c).replicas r []) i opening_cell ≡ opening_cell
 start_held c r i = grind (arith, get_or_repeat)
 
 pub stamps_start : (c : Config) → StampsCounted (start c)
@@ -268,5 +267,5 @@ stamps_start c = record { stamps = record { held = λ r i. (let e = ap (λ (x : 
 pub stamps_run : (c : Config) (steps : List Step) (s : State) → run c steps ≡ Some s → StampsAtMost s.steps s
 stamps_run c steps s e =
     let h = walk_run c (Both (Fixed c) StampsCounted) (Both (Fixed c) StampsBelow) (Both (Fixed c) StampsCounted) (λ t at r a g. (fixed_ticks c t at g.0, stamps_ticks t at g.1))
-          (both c (Fixed c) StampsBelow StampsCounted StampsCounted (fixed_keeps c) (stamps_makes c)) steps s e (fixed_start c, stamps_start c) in
+    (both c (Fixed c) StampsBelow StampsCounted StampsCounted (fixed_keeps c) (stamps_makes c)) steps s e (fixed_start c, stamps_start c) in
     h.1.stamps
