@@ -9,8 +9,8 @@ use Rattle.rss_wire.specs.declared.envelope.Envelope.{Envelope}
 use Rattle.rss_wire.specs.declared.message.Fate.{Fate}
 use Rattle.rss_wire.specs.declared.message.Fate.TheVariants.{Pending, Delivered, Repeated, Lost}
 use Rattle.rss_wire.specs.declared.messages.Reply.{Reply}
-use Rattle.rss_wire.specs.declared.net.NetRefusal.{NetRefusal}
-use Rattle.rss_wire.specs.declared.net.NetRefusal.TheVariants as refused
+use Rattle.rss_wire.specs.declared.refusal.NetRefusal.{NetRefusal}
+use Rattle.rss_wire.specs.declared.refusal.NetRefusal.TheVariants as refused
 use Rattle.rss_wire.specs.Messages.{message_at, is_sent}
 use Rattle.rss_wire.specs.Net.{deliver_refusal, fate_refusal}
 use Rattle.rss_tables.specs.Round.{hears, is_reached}

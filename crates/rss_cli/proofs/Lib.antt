@@ -1,0 +1,5 @@
+pub mod Tables
+pub mod Words
+pub mod Forms
+pub mod Plays
+pub mod OneWord

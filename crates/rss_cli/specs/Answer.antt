@@ -1,0 +1,163 @@
+-- What the top call answers: which text and status, for which words and input.
+use Rattle.std.specs.Prelude.{ℕ, ◌≡◌, ◌≢◌, ◌<◌, ◌≤◌, ◌⊎◌, Bool, true, false, List, [], ◌∷◌, length, Option, codes}
+use Rattle.std.specs.Io.KnownBytes.{Appends, Keeps}
+use Rattle.rss_io.specs.Pieces.{AppendsFront}
+use Rattle.pipeline_lang.specs.declared.config.Config.{Config}
+use Rattle.rss_machine.specs.State.{State}
+use Rattle.rss_machine.specs.Endings.{ending_of}
+use Rattle.rss_machine.specs.declared.step.Step.{Step}
+use Rattle.rss_machine.specs.declared.step.StepRefusal.{StepRefusal}
+use Rattle.step_text.specs.Spelling.{text_of}
+use Rattle.step_text.specs.Texts.{IsBadStep}
+use Rattle.rss_cli.specs.FaultText.{fault_text}
+use Rattle.rss_cli.specs.Form.{IsForm}
+use Rattle.rss_cli.specs.Played.{IsRun, IsFirstRefused}
+use Rattle.rss_cli.specs.Reported.{IsReport}
+use Rattle.rss_cli.specs.Split.{Splits}
+use Rattle.rss_cli.specs.Statuses.{status_of}
+use Rattle.rss_cli.specs.declared.fault.Fault.{Fault}
+use Rattle.rss_cli.specs.declared.fault.Fault.TheVariants as fault
+use Rattle.rss_cli.specs.declared.fault.FileFault.TheVariants.{NotBuilt, OverLimit}
+use Rattle.rss_cli.specs.declared.status.Status.{Status}
+use Rattle.rss_cli.specs.declared.status.Status.TheVariants.{Done, Unfinished, Limit, Stuck, Hurt, Usage, File, BadStep, ReadFault, WriteFault, OutOfMemory}
+
+-- the text reports the run of these steps, and the status is the ending's
+pub record IsReported (c : Config) (steps : List Step) (text : List ℕ) (status : Status) : Type 0 where
+  pub state : State
+  pub run : IsRun c steps state
+  pub report : IsReport c state text
+  pub ending : status ≡ status_of (ending_of c state)
+
+-- the text names the first of these steps that the machine refuses, with the cause
+pub record IsRefusedStep (c : Config) (steps : List Step) (text : List ℕ) (status : Status) : Type 0 where
+  pub number : ℕ
+  pub cause : StepRefusal
+  pub first : IsFirstRefused c steps number cause
+  pub told : text ≡ fault_text (fault.Refused number cause)
+  pub status_is : status ≡ BadStep
+
+-- the answer to a list of steps
+abbrev pub IsPlayed : Config → List Step → List ℕ → Status → Type 0
+IsPlayed c steps text status = IsReported c steps text status ⊎ IsRefusedStep c steps text status
+
+-- the step text spells these steps, and they were played
+pub record IsSpelled (c : Config) (behind text : List ℕ) (status : Status) : Type 0 where
+  pub steps : List Step
+  pub spelled : behind ≡ text_of steps
+  pub played : IsPlayed c steps text status
+
+-- the text names the first line of the step text that is off the grammar
+pub record IsOffGrammar (behind text : List ℕ) (status : Status) : Type 0 where
+  pub number : ℕ
+  pub column : ℕ
+  pub bad : IsBadStep behind number column
+  pub told : text ≡ fault_text (fault.OffGrammar number column)
+  pub status_is : status ≡ BadStep
+
+-- the answer to a step text
+abbrev pub IsStepsAnswer : Config → List ℕ → List ℕ → Status → Type 0
+IsStepsAnswer c behind text status = IsSpelled c behind text status ⊎ IsOffGrammar behind text status
+
+-- the file has the form that is built, and says this configuration
+pub record IsBuiltFile (file behind text : List ℕ) (status : Status) : Type 0 where
+  pub config : Config
+  pub form : IsForm file config
+  pub answer : IsStepsAnswer config behind text status
+
+-- the file has not the form that is built
+pub record IsNotBuilt (file text : List ℕ) (status : Status) : Type 0 where
+  pub none : (c : Config) → IsForm file c → ⊥
+  pub told : text ≡ fault_text (fault.File NotBuilt)
+  pub status_is : status ≡ File
+
+-- the answer to a file and the step text behind it
+abbrev pub IsReplayed : List ℕ → List ℕ → List ℕ → Status → Type 0
+IsReplayed file behind text status = IsBuiltFile file behind text status ⊎ IsNotBuilt file text status
+
+-- the longest input: a file, the line `%steps`, and step text
+abbrev pub input_limit : ℕ
+input_limit = 17825799
+
+-- the input was read, and is no longer than its limit
+pub record IsRead (input text : List ℕ) (status : Status) : Type 0 where
+  pub short : length input ≤ input_limit
+  pub file : List ℕ
+  pub behind : List ℕ
+  pub parts : Splits input file behind
+  pub replayed : IsReplayed file behind text status
+
+-- the input is longer than its limit
+pub record IsTooLong (input text : List ℕ) (status : Status) : Type 0 where
+  pub long : input_limit < length input
+  pub told : text ≡ fault_text (fault.File OverLimit)
+  pub status_is : status ≡ File
+
+-- the words are no command
+pub record IsUsage (words : List (List ℕ)) (text : List ℕ) (status : Status) : Type 0 where
+  pub other : words ≢ codes "replay" ∷ []
+  pub told : text ≡ fault_text fault.Usage
+  pub status_is : status ≡ Usage
+
+-- the words are the command that is built
+pub record IsReplay (words : List (List ℕ)) (input text : List ℕ) (status : Status) : Type 0 where
+  pub word : words ≡ codes "replay" ∷ []
+  pub answer : IsRead input text status ⊎ IsTooLong input text status
+
+-- which text and status are the answer to these words and this input
+abbrev pub IsAnswer : List (List ℕ) → List ℕ → List ℕ → Status → Type 0
+IsAnswer words input text status = IsUsage words text status ⊎ IsReplay words input text status
+
+-- the whole text of the answer with this status was written
+pub record Told (old new : Option (List ℕ)) (words : List (List ℕ)) (input : List ℕ) (status : Status) : Type 0 where
+  pub text : List ℕ
+  pub answer : IsAnswer words input text status
+  pub written : Appends old new text
+
+-- a front of the text of the answer was written
+pub record ToldInPart (old new : Option (List ℕ)) (words : List (List ℕ)) (input : List ℕ) : Type 0 where
+  pub status : Status
+  pub text : List ℕ
+  pub answer : IsAnswer words input text status
+  pub front : AppendsFront old new text
+
+-- what the sink has after a status: the whole text of the answer, a front of it, or nothing
+abbrev pub Wrote : Option (List ℕ) → Option (List ℕ) → List (List ℕ) → List ℕ → Status → Type 0
+Wrote old new words input ReadFault = Keeps old new
+Wrote old new words input OutOfMemory = Keeps old new
+Wrote old new words input WriteFault = ToldInPart old new words input
+Wrote old new words input Done = Told old new words input Done
+Wrote old new words input Unfinished = Told old new words input Unfinished
+Wrote old new words input Limit = Told old new words input Limit
+Wrote old new words input Stuck = Told old new words input Stuck
+Wrote old new words input Hurt = Told old new words input Hurt
+Wrote old new words input Usage = Told old new words input Usage
+Wrote old new words input File = Told old new words input File
+Wrote old new words input BadStep = Told old new words input BadStep
+
+-- whether an answer can have this status: it comes with a text
+abbrev pub is_answer : Status → Bool
+is_answer ReadFault = false
+is_answer WriteFault = false
+is_answer OutOfMemory = false
+is_answer Done = true
+is_answer Unfinished = true
+is_answer Limit = true
+is_answer Stuck = true
+is_answer Hurt = true
+is_answer Usage = true
+is_answer File = true
+is_answer BadStep = true
+
+-- whether this status comes with a report
+abbrev pub is_report : Status → Bool
+is_report Done = true
+is_report Unfinished = true
+is_report Limit = true
+is_report Stuck = true
+is_report Hurt = true
+is_report Usage = false
+is_report File = false
+is_report BadStep = false
+is_report ReadFault = false
+is_report WriteFault = false
+is_report OutOfMemory = false

@@ -1,0 +1,40 @@
+-- The line of a fault.
+use Rattle.std.specs.Prelude.{ℕ, List, ◌++◌, codes}
+use Rattle.std.specs.Fmt.{decimal}
+use Rattle.rss_machine.specs.declared.step.StepRefusal.{StepRefusal}
+use Rattle.rss_machine.specs.declared.step.StepRefusal.TheVariants as cause
+use Rattle.rss_wire.specs.declared.refusal.NetRefusal.{NetRefusal}
+use Rattle.rss_wire.specs.declared.refusal.NetRefusal.TheVariants.{NoSuchMessage, Lost, Delivered, NotDelivered, AgainUsed}
+use Rattle.rss_cli.specs.declared.fault.FileFault.{FileFault}
+use Rattle.rss_cli.specs.declared.fault.FileFault.TheVariants.{NotBuilt, OverLimit}
+use Rattle.rss_cli.specs.declared.fault.Fault.{Fault}
+use Rattle.rss_cli.specs.declared.fault.Fault.TheVariants.{Usage, File, OffGrammar, Refused}
+
+-- the name of a file's fault
+abbrev pub file_text : FileFault → List ℕ
+file_text NotBuilt = codes "NotBuilt"
+file_text OverLimit = codes "OverLimit"
+
+-- the name of a message's refusal
+abbrev pub net_text : NetRefusal → List ℕ
+net_text NoSuchMessage = codes "NoSuchMessage"
+net_text Lost = codes "Lost"
+net_text Delivered = codes "Delivered"
+net_text NotDelivered = codes "NotDelivered"
+net_text AgainUsed = codes "AgainUsed"
+
+-- the name of a step's refusal, and what it tells
+abbrev pub refusal_text : StepRefusal → List ℕ
+refusal_text cause.LogFull = codes "LogFull"
+refusal_text (cause.Reading found) = codes "Reading " ++ decimal found.greatest_earliest ++ codes " " ++ decimal found.latest
+refusal_text cause.NotBuilt = codes "NotBuilt"
+refusal_text cause.StageOver = codes "StageOver"
+refusal_text (cause.Message refusal) = codes "Message " ++ net_text refusal
+refusal_text cause.NotEnabled = codes "NotEnabled"
+
+-- the line of a fault
+unfoldable pub fault_text : Fault → List ℕ
+fault_text Usage = codes "fault usage\n"
+fault_text (File fault) = codes "fault file " ++ file_text fault ++ codes " file\n"
+fault_text (OffGrammar number column) = codes "fault step " ++ decimal number ++ codes " column " ++ decimal column ++ codes "\n"
+fault_text (Refused number cause) = codes "fault step " ++ decimal number ++ codes " " ++ refusal_text cause ++ codes "\n"

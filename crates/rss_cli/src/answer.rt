@@ -1,0 +1,121 @@
+//! Answers: the text and the status for an input, all made before the first byte is written.
+
+ghost use Rattle.std.specs.Prelude.{◌≡◌, ◌≤◌, ◌<◌, ◌^◌, true, IsTrue, IfOk, length};
+ghost use Rattle.rss_machine.specs.Built.{is_built};
+ghost use Rattle.rss_machine.specs.Endings.{ending_of};
+ghost use Rattle.rss_cli.specs.Answer.{IsRead, IsReplayed, IsPlayed, IsStepsAnswer, IsNotBuilt, input_limit, is_answer};
+ghost use Rattle.pipeline_lang.specs.declared.config.Config.{Config as Configured};
+ghost use Rattle.rss_cli.specs.FaultText.{fault_text};
+ghost use Rattle.rss_cli.specs.Form.{IsForm};
+ghost use Rattle.rss_cli.specs.Reported.{IsReport};
+ghost use Rattle.rss_cli.specs.Statuses.{status_of};
+
+use crate::fault::{Fault, FileFault};
+use crate::fault_lines::fault_line;
+use crate::form::{FormError, form_of};
+use crate::play::{PlayError, play};
+use crate::reporting::report;
+use crate::split::split;
+use crate::status::Status;
+use event_world::World;
+use pipeline_lang::Config;
+use rss_machine::Step;
+use std::alloc::{AllocError, Global};
+use step_text::{StepTextError, read_steps};
+
+/// The text to write, and the status to end with once it is written.
+#[derive(Drop)]
+pub struct Answer {
+    pub status: Status,
+    pub text: Vec<u8>,
+}
+
+/// The answer to an input that is not too long.
+pub fn answer_of(alloc: Global, input: &[u8]) -> Result<Answer, AllocError>
+    requires { length input.now ≤ input_limit }
+    ensures answer { IfOk result (λ a. IsRead input.now a.text.items a.status) }
+    ensures status { IfOk result (λ a. is_answer a.status ≡ true) }
+{
+    let (file, behind) = split(input);
+    replayed(alloc, file, behind)
+}
+
+// The answer to a file and the step text behind it.
+fn replayed(alloc: Global, file: &[u8], behind: &[u8]) -> Result<Answer, AllocError>
+    requires { length behind.now < 2 ^ 32 }
+    ensures answer { IfOk result (λ a. IsReplayed file.now behind.now a.text.items a.status) }
+    ensures status { IfOk result (λ a. is_answer a.status ≡ true) }
+{
+    match form_of(alloc, file) {
+        Ok(config) => steps_answer(alloc, config, behind),
+        Err(FormError::NotBuilt) => not_built(alloc, file),
+        Err(FormError::OutOfMemory) => Err(AllocError),
+    }
+}
+
+// The answer to a file that has not the form that is built.
+fn not_built(alloc: Global, file: &[u8]) -> Result<Answer, AllocError>
+    requires { (c : Configured) → IsForm file.now c → ⊥ }
+    ensures answer { IfOk result (λ a. IsNotBuilt file.now a.text.items a.status) }
+    ensures status { IfOk result (λ a. is_answer a.status ≡ true) }
+{
+    let _ = file;
+    fault_answer(alloc, Fault::File(FileFault::NotBuilt), Status::File)
+}
+
+// The answer to the step text of a configuration.
+fn steps_answer(alloc: Global, config: Config, behind: &[u8]) -> Result<Answer, AllocError>
+    requires built { IsTrue (is_built config) }
+    requires limit { config.max_steps ≤ 200000 }
+    requires short { length behind.now < 2 ^ 32 }
+    ensures answer { IfOk result (λ a. IsStepsAnswer config behind.now a.text.items a.status) }
+    ensures status { IfOk result (λ a. is_answer a.status ≡ true) }
+{
+    match read_steps(alloc, behind) {
+        Ok(steps) => played(alloc, config, steps.as_slice()),
+        Err(StepTextError::BadStep { number, column }) => {
+            let fault = Fault::OffGrammar {
+                number: u64::from(number),
+                column: u64::from(column),
+            };
+            fault_answer(alloc, fault, Status::BadStep)
+        }
+        Err(StepTextError::OutOfMemory) => Err(AllocError),
+    }
+}
+
+// The answer to a list of steps of a configuration.
+fn played(alloc: Global, config: Config, steps: &[Step]) -> Result<Answer, AllocError>
+    requires built { IsTrue (is_built config) }
+    requires limit { config.max_steps ≤ 200000 }
+    ensures answer { IfOk result (λ a. IsPlayed config steps.now a.text.items a.status) }
+    ensures status { IfOk result (λ a. is_answer a.status ≡ true) }
+{
+    match play(alloc, config, steps) {
+        Ok(world) => report_answer(alloc, &world),
+        Err(PlayError::Refused { number, cause }) => {
+            fault_answer(alloc, Fault::Refused { number, cause }, Status::BadStep)
+        }
+        Err(PlayError::OutOfMemory) => Err(AllocError),
+    }
+}
+
+// The answer that reports a World.
+fn report_answer(alloc: Global, world: &World) -> Result<Answer, AllocError>
+    ensures report { IfOk result (λ a. IsReport world.now.config world.now.state a.text.items) }
+    ensures ending { IfOk result (λ a. a.status ≡ status_of (ending_of world.now.config world.now.state)) }
+    ensures status { IfOk result (λ a. is_answer a.status ≡ true) }
+{
+    let status = Status::of(world.ending());
+    let text = report(alloc, world)?;
+    Ok(Answer { status, text })
+}
+
+/// The answer that tells a fault.
+pub fn fault_answer(alloc: Global, fault: Fault, status: Status) -> Result<Answer, AllocError>
+    ensures text { IfOk result (λ a. a.text.items ≡ fault_text fault) }
+    ensures status { IfOk result (λ a. a.status ≡ status) }
+{
+    let text = fault_line(alloc, fault)?;
+    Ok(Answer { status, text })
+}

@@ -1,0 +1,114 @@
+//! The top call: words and an input in, a text and a status out.
+
+ghost use Rattle.std.specs.Prelude.{◌≡◌, ◌∷◌, [], ◌↔◌, ◌<◌, ◌≤◌, true, codes, map, length, IfOk, IfSome, IsTrue};
+ghost use Rattle.std.specs.Io.KnownBytes.{IsAtEnd, Keeps};
+ghost use Rattle.std.specs.String.{string_bytes};
+ghost use Rattle.rss_io.specs.Faults.{Rose};
+ghost use Rattle.rss_cli.specs.Answer.{Wrote, IsAnswer, is_answer, is_report, input_limit};
+
+use crate::answer::{Answer, answer_of, fault_answer};
+use crate::fault::{Fault, FileFault};
+use crate::status::Status;
+use rss_io::{ReadError, Sink, Source, read_all, write_all};
+use std::alloc::{AllocError, Global};
+
+/// The longest input, in bytes: a file of 1,048,576, the line `%steps`, and step text of 16,777,216.
+const LONGEST_INPUT: usize = 17_825_799;
+
+/// The command of these words: reads the source, and writes a report or the line of a fault to the
+/// sink. The whole text is made before its first byte is written.
+///
+/// Today every command is served by `still_top`.
+pub fn top<S: Source, K: Sink>(
+    alloc: Global,
+    words: &[String],
+    source: &mut S,
+    sink: &mut K,
+) -> Status
+    ensures written { IfSome (S.left source.old) (λ input.
+        Wrote (K.written sink.old) (K.written sink.new) (map string_bytes words.now) input result) }
+    ensures read_to_end { IsTrue (is_report result) → IsAtEnd (S.left source.new) }
+    ensures read { result ≡ Status.ReadFault → Rose (S.source_faults source.old) (S.source_faults source.new) }
+    ensures write { result ≡ Status.WriteFault → Rose (K.sink_faults sink.old) (K.sink_faults sink.new) }
+{
+    still_top(alloc, words, source, sink)
+}
+
+/// The commands that wait for nobody: `replay`.
+pub fn still_top<S: Source, K: Sink>(
+    alloc: Global,
+    words: &[String],
+    source: &mut S,
+    sink: &mut K,
+) -> Status
+    ensures written { IfSome (S.left source.old) (λ input.
+        Wrote (K.written sink.old) (K.written sink.new) (map string_bytes words.now) input result) }
+    ensures read_to_end { IsTrue (is_report result) → IsAtEnd (S.left source.new) }
+    ensures read { result ≡ Status.ReadFault → Rose (S.source_faults source.old) (S.source_faults source.new) }
+    ensures write { result ≡ Status.WriteFault → Rose (K.sink_faults sink.old) (K.sink_faults sink.new) }
+{
+    match respond(alloc, words, source) {
+        Ok(answer) => match write_all(sink, answer.text.as_slice()) {
+            Ok(()) => answer.status,
+            Err(_) => Status::WriteFault,
+        },
+        Err(Halt::ReadFault) => Status::ReadFault,
+        Err(Halt::OutOfMemory) => Status::OutOfMemory,
+    }
+}
+
+// Why there is no answer.
+#[derive(Clone, Copy, Debug, PartialEq, Eq)]
+enum Halt {
+    ReadFault,
+    OutOfMemory,
+}
+
+// The answer to the words and the input, of which no byte is written yet.
+fn respond<S: Source>(alloc: Global, words: &[String], source: &mut S) -> Result<Answer, Halt>
+    ensures answer { IfOk result (λ a. IfSome (S.left source.old) (λ input.
+        IsAnswer (map string_bytes words.now) input a.text.items a.status)) }
+    ensures status { IfOk result (λ a. is_answer a.status ≡ true) }
+    ensures read_to_end { IfOk result (λ a. IsTrue (is_report a.status) → IsAtEnd (S.left source.new)) }
+    ensures read { result ≡ Err Halt.ReadFault → Rose (S.source_faults source.old) (S.source_faults source.new) }
+{
+    if !is_replay(words) {
+        return made(fault_answer(alloc, Fault::Usage, Status::Usage));
+    }
+    match read_all(alloc, source, LONGEST_INPUT) {
+        Ok(input) => made(answer_of(alloc, input.as_slice())),
+        Err(ReadError::TooLong) => {
+            made(fault_answer(alloc, Fault::File(FileFault::OverLimit), Status::File))
+        }
+        Err(ReadError::ReadFault) => Err(Halt::ReadFault),
+        Err(ReadError::OutOfMemory) => Err(Halt::OutOfMemory),
+    }
+}
+
+// An answer, where there was memory for it.
+fn made(answer: Result<Answer, AllocError>) -> Result<Answer, Halt>
+    ensures same { IfOk result (λ a. answer ≡ Ok a) }
+    ensures cause { result ≡ Err Halt.ReadFault → ⊥ }
+{
+    match answer {
+        Ok(answer) => Ok(answer),
+        Err(_) => Err(Halt::OutOfMemory),
+    }
+}
+
+// Whether the words are `replay` alone.
+fn is_replay(words: &[String]) -> bool
+    ensures { IsTrue result ↔ (map string_bytes words.now ≡ codes "replay" ∷ []) }
+{
+    match words {
+        [word] => is_replay_word(word),
+        _ => false,
+    }
+}
+
+// Whether a word is `replay`.
+fn is_replay_word(word: &String) -> bool
+    ensures { IsTrue result ↔ (string_bytes word.now ≡ codes "replay") }
+{
+    word.as_str() == "replay"
+}

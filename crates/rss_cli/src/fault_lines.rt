@@ -1,0 +1,89 @@
+//! The line of a fault.
+
+ghost use Rattle.std.specs.Prelude.{◌≡◌, ◌++◌, OnOk, IfOk};
+ghost use Rattle.rss_cli.specs.FaultText.{file_text, net_text, refusal_text, fault_text};
+
+use crate::fault::{Fault, FileFault};
+use crate::text::{put, put_number};
+use rss_machine::StepRefusal;
+use rss_wire::NetRefusal;
+use std::alloc::{AllocError, Global};
+
+fn put_file(out: &mut Vec<u8>, fault: FileFault) -> Result<(), AllocError>
+    ensures { OnOk result (out.new.items ≡ out.old.items ++ file_text fault) }
+{
+    match fault {
+        FileFault::NotBuilt => put(out, b"NotBuilt"),
+        FileFault::OverLimit => put(out, b"OverLimit"),
+    }
+}
+
+fn put_net(out: &mut Vec<u8>, refusal: NetRefusal) -> Result<(), AllocError>
+    ensures { OnOk result (out.new.items ≡ out.old.items ++ net_text refusal) }
+{
+    match refusal {
+        NetRefusal::NoSuchMessage => put(out, b"NoSuchMessage"),
+        NetRefusal::Lost => put(out, b"Lost"),
+        NetRefusal::Delivered => put(out, b"Delivered"),
+        NetRefusal::NotDelivered => put(out, b"NotDelivered"),
+        NetRefusal::AgainUsed => put(out, b"AgainUsed"),
+    }
+}
+
+fn put_refusal(alloc: Global, out: &mut Vec<u8>, cause: StepRefusal) -> Result<(), AllocError>
+    ensures { OnOk result (out.new.items ≡ out.old.items ++ refusal_text cause) }
+{
+    match cause {
+        StepRefusal::LogFull => put(out, b"LogFull"),
+        StepRefusal::Reading(contradiction) => {
+            put(out, b"Reading ")?;
+            put_number(alloc, out, contradiction.greatest_earliest)?;
+            put(out, b" ")?;
+            put_number(alloc, out, contradiction.latest)
+        }
+        StepRefusal::NotBuilt => put(out, b"NotBuilt"),
+        StepRefusal::StageOver => put(out, b"StageOver"),
+        StepRefusal::Message(refusal) => {
+            put(out, b"Message ")?;
+            put_net(out, refusal)
+        }
+        StepRefusal::NotEnabled => put(out, b"NotEnabled"),
+    }
+}
+
+#[tactic(auto, unfolding(crate::specs::FaultText::fault_text))]
+fn put_fault(alloc: Global, out: &mut Vec<u8>, fault: Fault) -> Result<(), AllocError>
+    ensures { OnOk result (out.new.items ≡ out.old.items ++ fault_text fault) }
+{
+    match fault {
+        Fault::Usage => put(out, b"fault usage\n"),
+        Fault::File(fault) => {
+            put(out, b"fault file ")?;
+            put_file(out, fault)?;
+            put(out, b" file\n")
+        }
+        Fault::OffGrammar { number, column } => {
+            put(out, b"fault step ")?;
+            put_number(alloc, out, number)?;
+            put(out, b" column ")?;
+            put_number(alloc, out, column)?;
+            put(out, b"\n")
+        }
+        Fault::Refused { number, cause } => {
+            put(out, b"fault step ")?;
+            put_number(alloc, out, number)?;
+            put(out, b" ")?;
+            put_refusal(alloc, out, cause)?;
+            put(out, b"\n")
+        }
+    }
+}
+
+/// The line of a fault.
+pub fn fault_line(alloc: Global, fault: Fault) -> Result<Vec<u8>, AllocError>
+    ensures { IfOk result (λ line. line.items ≡ fault_text fault) }
+{
+    let mut line = Vec::new(alloc);
+    put_fault(alloc, &mut line, fault)?;
+    Ok(line)
+}
