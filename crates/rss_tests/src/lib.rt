@@ -1,0 +1,7 @@
+//! Code: tests that cross crates. The library itself is empty.
+#![tactic(auto)]
+
+#[cfg(test)]
+mod byte_tests;
+#[cfg(test)]
+mod command_tests;
