@@ -5,3 +5,5 @@
 mod byte_tests;
 #[cfg(test)]
 mod command_tests;
+#[cfg(test)]
+mod world_tests;
