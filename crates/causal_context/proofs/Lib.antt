@@ -1,2 +1,12 @@
 pub mod Marked
-pub mod LeastTimes
+pub mod Changed
+pub mod Timed
+pub mod Placed
+pub mod Ordered
+pub mod Ascending
+pub mod Joins
+pub mod JoinsOfTimes
+pub mod SameServices
+pub mod Looked
+pub mod SeenJoins
+pub mod SeenKept

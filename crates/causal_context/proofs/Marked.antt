@@ -6,7 +6,8 @@ use Rattle.std.proofs.lemmas.List.Elements.{All-cons, All-nil}
 use Rattle.std.proofs.lemmas.List.Kept.{AllPairs-cons}
 use Rattle.rss_names.specs.declared.service.ServiceId.{ServiceId}
 use Rattle.rss_names.specs.declared.service.ServiceId.TheVariants.{Txn, Reg}
-use Rattle.causal_context.specs.Services.{IsService, StandsBefore, AreServices, same_service, has_service, place_of, service_at}
+use Rattle.rss_names.specs.Services.{same_service}
+use Rattle.causal_context.specs.Services.{IsService, StandsBefore, AreServices, has_service, place_of, service_at}
 use Rattle.causal_context.specs.Marks.{marked_from, same_apart, same_itself, not_before}
 
 -- the service at a service's place is that service

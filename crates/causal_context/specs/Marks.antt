@@ -4,7 +4,8 @@ use Rattle.std.proofs.Common.{arith, ap, sym, ◌∙◌}
 use Rattle.std.proofs.lemmas.Grind.{common_steps}
 use Rattle.std.proofs.lemmas.Bool.Decides.{nat_tests}
 use Rattle.rss_names.specs.declared.service.ServiceId.{ServiceId}
-use Rattle.causal_context.specs.Services.{service_at, has_service, same_service}
+use Rattle.rss_names.specs.Services.{same_service}
+use Rattle.causal_context.specs.Services.{service_at, has_service}
 
 -- the services whose places are marked, where the first mark is that of this place
 unfoldable pub marked_from : ℕ → List Bool → List ServiceId

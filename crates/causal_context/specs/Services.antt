@@ -1,8 +1,9 @@
 -- Services in their order: the transaction services by number, and then the register services by number.
-use Rattle.std.specs.Prelude.{ℕ, ◌+◌, ◌-◌, ◌<◌, ◌≤◌, Bool, false, ◌&&◌, ◌==◌, nat_lt, nat_le, if◌then◌else◌, Option, Some, None, List, All, AllPairs}
-use Rattle.std.specs.List.{list_any}
+use Rattle.std.specs.Prelude.{ℕ, ◌+◌, ◌-◌, ◌<◌, ◌≤◌, Bool, true, false, not, ◌&&◌, nat_lt, nat_le, if◌then◌else◌, Option, Some, None, List, [], ◌∷◌, All, AllPairs}
+use Rattle.std.specs.List.{list_any, filter}
 use Rattle.rss_names.specs.declared.service.ServiceId.{ServiceId}
 use Rattle.rss_names.specs.declared.service.ServiceId.TheVariants.{Txn, Reg}
+use Rattle.rss_names.specs.Services.{same_service}
 
 -- the numbers of services are 1 to 8
 abbrev pub IsService : ServiceId → Type 0
@@ -26,16 +27,33 @@ pub record AreServices (services : List ServiceId) : Type 0 where
   pub in_range : All IsService services
   pub in_order : AllPairs StandsBefore services
 
--- whether two services are the same
-abbrev pub same_service : ServiceId → ServiceId → Bool
-same_service (Txn a) (Txn b) = a == b
-same_service (Txn a) (Reg b) = false
-same_service (Reg a) (Txn b) = false
-same_service (Reg a) (Reg b) = a == b
+-- whether a service stands before another in the order of services
+abbrev pub stands_before : ServiceId → ServiceId → Bool
+stands_before (Txn a) (Txn b) = nat_lt a b
+stands_before (Txn a) (Reg b) = true
+stands_before (Reg a) (Txn b) = false
+stands_before (Reg a) (Reg b) = nat_lt a b
 
 -- whether a service is in a list
 abbrev pub has_service : List ServiceId → ServiceId → Bool
 has_service services id = list_any (same_service id) services
+
+-- a service put among services in their order, once
+abbrev pub put_service : ServiceId → List ServiceId → List ServiceId
+put_service id [] = id ∷ []
+put_service id (s ∷ services) =
+    if stands_before id s then id ∷ s ∷ services
+    else if same_service id s then s ∷ services
+    else s ∷ put_service id services
+
+-- the services of two lists, in their order, each once
+abbrev pub services_joined : List ServiceId → List ServiceId → List ServiceId
+services_joined services [] = services
+services_joined services (id ∷ ids) = services_joined (put_service id services) ids
+
+-- the services without this one
+abbrev pub without_service : ServiceId → List ServiceId → List ServiceId
+without_service id services = filter (λ s. not (same_service id s)) services
 
 -- the place of the number in its kind, whose first place this is
 abbrev pub place_from : ℕ → ℕ → Option ℕ

@@ -1,8 +1,9 @@
 //! The services that a stage used last.
 
 ghost use Rattle.std.specs.Prelude.{◌≡◌, ◌<◌, IfSome};
-ghost use Rattle.causal_context.specs.Services.{AreServices, has_service, place_from, place_of};
-ghost use Rattle.causal_context.specs.LastView.{nothing_last};
+ghost use Rattle.causal_context.specs.Services.{IsService, AreServices, has_service, services_joined, place_from, place_of};
+ghost use Rattle.causal_context.specs.Marks.{marked_from};
+ghost use Rattle.causal_context.specs.LastView.{nothing_last, last_alone, outside_alone, last_joined, last_fenced};
 
 use rss_names::ServiceId;
 use std::marker::Model;
@@ -55,6 +56,17 @@ fn place(id: ServiceId) -> Option<usize>
     }
 }
 
+/// Sets each mark that the others have.
+fn mark_all(marks: &mut [bool; 16], others: &[bool; 16])
+    ensures { marked_from 0 marks.new ≡ services_joined (marked_from 0 marks.old) (marked_from 0 others.now) }
+{
+    for place in 0..16 {
+        if others[place] {
+            marks[place] = true;
+        }
+    }
+}
+
 impl Last {
     /// Nothing was used yet.
     #[tactic(auto, unfolding(crate::specs::Marks::marked_from))]
@@ -64,6 +76,33 @@ impl Last {
         Last {
             marks: [false; 16],
             outside: false,
+        }
+    }
+
+    /// This service alone was used last.
+    #[tactic(auto, using(crate::proofs::Changed::changes))]
+    pub fn alone(id: ServiceId) -> Last
+        requires service { IsService id }
+        ensures { result ≡ last_alone id }
+    {
+        let mut marks = [false; 16];
+        if let Some(place) = place(id) {
+            marks[place] = true;
+        }
+        Last {
+            marks,
+            outside: false,
+        }
+    }
+
+    /// Something outside the services alone was used last.
+    #[tactic(auto, unfolding(crate::specs::Marks::marked_from))]
+    pub fn outside_alone() -> Last
+        ensures { result ≡ outside_alone }
+    {
+        Last {
+            marks: [false; 16],
+            outside: true,
         }
     }
 
@@ -84,5 +123,24 @@ impl Last {
         ensures { result ≡ self.now.outside }
     {
         self.outside
+    }
+
+    /// What one of the two used last.
+    pub fn join(&mut self, other: &Last)
+        ensures { self.new ≡ last_joined self.old other.now }
+    {
+        mark_all(&mut self.marks, &other.marks);
+        self.outside = self.outside || other.outside;
+    }
+
+    /// This service was fenced: it is not used last any more, and something outside is.
+    #[tactic(auto, using(crate::proofs::Changed::changes))]
+    pub fn fence(&mut self, id: ServiceId)
+        ensures { self.new ≡ last_fenced id self.old }
+    {
+        if let Some(place) = place(id) {
+            self.marks[place] = false;
+        }
+        self.outside = true;
     }
 }

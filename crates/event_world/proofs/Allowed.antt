@@ -3,10 +3,10 @@ use Rattle.std.proofs.Common.{◌≡◌, ℕ, zero, suc, ◌+◌, ◌-◌, ◌<�
 use Rattle.std.proofs.lemmas.Bool.Decides.{nat_tests}
 use Rattle.pipeline_lang.specs.declared.config.Config.{Config}
 use Rattle.truetime.specs.TrueMoment.{admits}
-use Rattle.rss_machine.specs.State.{State}
-use Rattle.rss_machine.specs.Endings.{any_may_act}
-use Rattle.rss_machine.specs.Refusal.{refusal, kind_refusal, may_act}
-use Rattle.rss_machine.specs.Moves.{ticks}
+use Rattle.first_machine.specs.State.{State}
+use Rattle.first_machine.specs.Endings.{any_may_act}
+use Rattle.first_machine.specs.Refusal.{refusal, kind_refusal, may_act}
+use Rattle.first_machine.specs.Moves.{ticks}
 use Rattle.truetime.specs.Reading.{Reading as At}
 use Rattle.rss_machine.specs.declared.step.Step.{Step}
 use Rattle.rss_machine.specs.declared.step.StepKind.{StepKind}

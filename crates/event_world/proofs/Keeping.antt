@@ -3,15 +3,15 @@ use Rattle.std.proofs.Common.{◌≡◌, ℕ, zero, suc, ◌≤◌, ◌<◌, get
 use Rattle.pipeline_lang.specs.declared.config.Config.{Config}
 use Rattle.pipeline_lang.specs.declared.config.Body.{Body}
 use Rattle.truetime.specs.Reading.{Reading, IsReading}
-use Rattle.rss_machine.specs.Built.{is_built, are_built_bodies}
-use Rattle.rss_machine.specs.State.{State}
-use Rattle.rss_machine.specs.Effect.{stepped}
-use Rattle.rss_machine.specs.Refusal.{refusal}
-use Rattle.rss_machine.specs.Run.{run, run_from, steps_of, readings_of}
+use Rattle.first_machine.specs.Built.{is_built, are_built_bodies}
+use Rattle.first_machine.specs.State.{State}
+use Rattle.first_machine.specs.Effect.{stepped}
+use Rattle.first_machine.specs.Refusal.{refusal}
+use Rattle.first_machine.specs.Run.{run, run_from, steps_of, readings_of}
 use Rattle.rss_machine.specs.declared.step.Step.{Step}
 use Rattle.rss_machine.specs.declared.step.Logged.{Logged}
-use Rattle.world_laws.specs.Laws.{IsOrdered}
-use Rattle.world_laws.proofs.Runs.{run_more, steps_grow}
+use Rattle.first_laws.specs.Laws.{IsOrdered}
+use Rattle.first_laws.proofs.Runs.{run_more, steps_grow}
 use Rattle.event_world.specs.declared.machine.Machine.{Machine}
 use Rattle.event_world.specs.Machine.{state_of, IsOpening}
 use Rattle.event_world.specs.Kept.{IsKept, AreReadings}

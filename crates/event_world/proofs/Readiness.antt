@@ -14,15 +14,15 @@ use Rattle.rss_tables.specs.Round.{hears}
 use Rattle.rss_tables.specs.RegisterSession.{reply_cell}
 use Rattle.gryff_quorum.specs.Heard.{HasSmallStamps, HearsSmall, IsSmall}
 use Rattle.gryff_quorum.proofs.SmallStamps.{greatest_heard_is_small, hearing_keeps_small}
-use Rattle.rss_machine.specs.State.{State, session_at}
-use Rattle.rss_machine.specs.Moves.{replica_of}
-use Rattle.rss_machine.specs.Run.{run}
+use Rattle.first_machine.specs.State.{State, session_at}
+use Rattle.first_machine.specs.Moves.{replica_of}
+use Rattle.first_machine.specs.Run.{run}
 use Rattle.rss_machine.specs.declared.step.Step.{Step}
 use Rattle.rss_machine.specs.declared.step.StepKind.{StepKind}
 use Rattle.rss_machine.specs.declared.step.StepKind.TheVariants.{Act, Go, Lose, Again, Kill, Stub}
-use Rattle.world_laws.specs.Shape.{Shape, StampsAtMost, is_replica, body_number}
-use Rattle.world_laws.specs.Shape.{is_request as is_request_body}
-use Rattle.world_laws.proofs.Shapes.{shape_run}
+use Rattle.first_laws.specs.Shape.{Shape, StampsAtMost, is_replica, body_number}
+use Rattle.first_laws.specs.Shape.{is_request as is_request_body}
+use Rattle.first_laws.proofs.Shapes.{shape_run}
 use Rattle.event_world.specs.declared.machine.Machine.{Machine}
 use Rattle.event_world.specs.Machine.{state_of}
 use Rattle.event_world.specs.Ready.{IsReady, IsReadyFor, IsReadyForStep, IsReplica, is_request}

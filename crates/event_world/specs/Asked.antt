@@ -1,7 +1,7 @@
 -- What the layers above ask of the state.
 use Rattle.std.specs.Prelude.{ℕ, Option, slice_get}
 use Rattle.std.specs.Option.{option_map}
-use Rattle.rss_machine.specs.State.{State}
+use Rattle.first_machine.specs.State.{State}
 
 -- the step that sent a call's own first round, if there is such a call
 abbrev pub round_step_of : State → ℕ → Option ℕ

@@ -2,7 +2,7 @@
 use Rattle.std.specs.Prelude.{◌≡◌, ◌≤◌, List, [], ◌∷◌, length, Some}
 use Rattle.pipeline_lang.specs.declared.config.Config.{Config}
 use Rattle.truetime.specs.Reading.{Reading, IsReading}
-use Rattle.rss_machine.specs.Run.{run, steps_of, readings_of}
+use Rattle.first_machine.specs.Run.{run, steps_of, readings_of}
 use Rattle.rss_machine.specs.declared.step.Logged.{Logged}
 use Rattle.event_world.specs.declared.machine.Machine.{Machine}
 use Rattle.event_world.specs.Machine.{state_of}

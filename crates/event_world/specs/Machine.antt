@@ -1,7 +1,7 @@
 -- The machine's state, read from the parts that the code keeps, and the room that a step needs.
 use Rattle.std.specs.Prelude.{◌≡◌, ◌+◌, ◌≤◌, Bool, ◌&&◌, nat_le, [], vec_len, vec_capacity}
 use Rattle.event_world.specs.declared.machine.Machine.{Machine}
-use Rattle.rss_machine.specs.State.{State, start}
+use Rattle.first_machine.specs.State.{State, start}
 use Rattle.pipeline_lang.specs.declared.config.Config.{Config}
 
 -- the state of the machine

@@ -7,9 +7,9 @@ use Rattle.pipeline_lang.specs.declared.script.Statement.{Statement}
 use Rattle.pipeline_lang.specs.declared.script.Statement.TheVariants as statement
 use Rattle.rss_model.specs.declared.op.Op.TheVariants as op
 use Rattle.rss_tables.specs.declared.register_session.RegWork.TheVariants as work
-use Rattle.rss_machine.specs.State.{State}
-use Rattle.rss_machine.specs.Effect.{expr_value, starts}
-use Rattle.rss_machine.specs.Moves.{begins, exits}
+use Rattle.first_machine.specs.State.{State}
+use Rattle.first_machine.specs.Effect.{expr_value, starts}
+use Rattle.first_machine.specs.Moves.{begins, exits}
 use Rattle.std.specs.Prelude.{length}
 use Rattle.event_world.specs.declared.next.Next.{Next}
 use Rattle.event_world.specs.declared.next.Next.TheVariants as next

@@ -11,7 +11,7 @@ use Rattle.rss_tables.specs.RegisterSession.{reply_cell}
 use Rattle.gryff_quorum.specs.Heard.{HasSmallStamps}
 use Rattle.event_world.specs.declared.machine.Machine.{Machine}
 use Rattle.event_world.specs.Machine.{state_of}
-use Rattle.rss_machine.specs.State.{session_at}
+use Rattle.first_machine.specs.State.{session_at}
 use Rattle.rss_machine.specs.declared.step.StepKind.{StepKind}
 use Rattle.rss_machine.specs.declared.step.StepKind.TheVariants.{Act, Go, Lose, Again, Kill, Stub}
 

@@ -1,8 +1,8 @@
 -- The World as its callers see it, and what its calls do.
 use Rattle.std.specs.Prelude.{ℕ, ◌≡◌, Bool, List, [], ◌∷◌, ◌++◌}
 use Rattle.pipeline_lang.specs.declared.config.Config.{Config}
-use Rattle.rss_machine.specs.State.{State, start}
-use Rattle.rss_machine.specs.Effect.{stepped}
+use Rattle.first_machine.specs.State.{State, start}
+use Rattle.first_machine.specs.Effect.{stepped}
 use Rattle.rss_machine.specs.declared.step.Step.{Step}
 use Rattle.rss_machine.specs.declared.step.Logged.{Logged}
 

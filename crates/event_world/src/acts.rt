@@ -4,15 +4,16 @@ ghost use Rattle.std.specs.Prelude.{◌≡◌, ◌+◌, ◌-◌, ◌<◌, ◌≤
 ghost use Rattle.event_world.specs.Machine.{state_of, HasRoom};
 ghost use Rattle.event_world.specs.Ready.{IsReady};
 ghost use Rattle.event_world.specs.Next.{makes_next, is_call};
-ghost use Rattle.rss_machine.specs.Effect.{starts};
-ghost use Rattle.rss_machine.specs.Moves.{begins, exits};
-ghost use Rattle.rss_machine.specs.State.{stage_at, register_service, built_replicas, nobody_cut};
+ghost use Rattle.first_machine.specs.Effect.{starts};
+ghost use Rattle.first_machine.specs.Moves.{begins, exits};
+ghost use Rattle.first_machine.specs.State.{stage_at, register_service, built_replicas, nobody_cut};
 ghost use Rattle.rss_tables.specs.RegisterSession.{round_requests, opening_session, work_key};
 
 use crate::machine::Machine;
 use crate::next::Next;
 use gryff_quorum::RegSession;
-use rss_machine::{Call, Life, Stage};
+use first_machine::{Call, Stage};
+use rss_machine::Life;
 use rss_model::{Entry, How, Op, Token};
 use rss_names::{CallId, ServiceId, StageId};
 use rss_tables::RegWork;

@@ -3,22 +3,22 @@
 ghost use Rattle.std.specs.Prelude.{◌≡◌, ◌+◌, ◌-◌, ◌<◌, ◌≤◌, ◌^◌, [], ◌∷◌, ◌++◌, length, true, false, IsTrue, set, get_or, Some, None};
 ghost use Rattle.event_world.specs.Machine.{state_of, HasRoom};
 ghost use Rattle.event_world.specs.Ready.{IsReady, IsReadyFor, IsReplica};
-ghost use Rattle.rss_machine.specs.Effect.{comes, request_comes, reply_comes, current_comes, is_current as is_awaited, shown_of, notes_served};
-ghost use Rattle.rss_machine.specs.Moves.{arrives, serves, notes_store, hears_reply, ends_call, forgets, replica_of};
-ghost use Rattle.rss_machine.specs.State.{call_at, session_at};
+ghost use Rattle.first_machine.specs.Effect.{comes, request_comes, reply_comes, current_comes, is_current as is_awaited, shown_of, notes_served};
+ghost use Rattle.first_machine.specs.Moves.{arrives, serves, notes_store, hears_reply, ends_call, forgets, replica_of};
+ghost use Rattle.first_machine.specs.State.{call_at, session_at};
 ghost use Rattle.rss_wire.specs.Messages.{message_at, is_asked, envelope_at, request_at, reply_at};
-ghost use Rattle.rss_machine.specs.Marks.{first_mark as first_of, marks_stamp, same_key};
+ghost use Rattle.first_machine.specs.Marks.{first_mark as first_of, marks_stamp, same_key};
 ghost use Rattle.event_world.specs.Next.{stored_key as stored_key_of};
 ghost use Rattle.std.specs.Prelude.{IfSome, IsSome, vec_len, vec_capacity};
 ghost use Rattle.std.specs.Option.{option_to_list};
 ghost use Rattle.rss_tables.specs.RegisterSession.{session_sends, phase_end};
-ghost use Rattle.rss_machine.specs.Effect.{goes_on};
+ghost use Rattle.first_machine.specs.Effect.{goes_on};
 ghost use Rattle.rss_wire.specs.Net.{deliver_refusal};
 
 use crate::machine::{Machine, set_current, slot_of};
 use crate::majority::majority_stamp;
 use carstamps::Carstamp;
-use rss_machine::{Mark, Stage};
+use first_machine::{Mark, Stage};
 use rss_model::{Entry, Reply, Shown};
 use rss_names::{CallId, Key, ReplicaId, Seq, ServiceId, StageId, Target};
 use rss_tables::{RegEnd, RegWork};

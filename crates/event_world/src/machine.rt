@@ -2,11 +2,11 @@
 
 ghost use Rattle.std.specs.Prelude.{◌≡◌, ◌+◌, ◌<◌, ◌≤◌, ◌^◌, [], ◌++◌, length, OnOk, vec_len, vec_capacity, set, Some, None};
 ghost use Rattle.event_world.specs.Machine.{state_of, HasRoom, SameButRoom};
-ghost use Rattle.rss_machine.specs.Moves.{sends, sends_one, slot_of as slot_for};
+ghost use Rattle.first_machine.specs.Moves.{sends, sends_one, slot_of as slot_for};
 
 use gryff_quorum::RegSession;
 use reg_replica::Replica;
-use rss_machine::{Call, Mark, Stage};
+use first_machine::{Call, Mark, Stage};
 use rss_model::{Entry, Shown};
 use rss_names::{StageId, Target};
 use rss_wire::{Net, Outbox, Request};

@@ -1,7 +1,7 @@
 //! The statement that a stage makes next.
 
 ghost use Rattle.std.specs.Prelude.{◌≡◌, ◌+◌, ◌-◌, ◌<◌, ◌^◌, get_or, true, IsTrue};
-ghost use Rattle.rss_machine.specs.Effect.{script_of, expr_value as value_of, no_body};
+ghost use Rattle.first_machine.specs.Effect.{script_of, expr_value as value_of, no_body};
 ghost use Rattle.event_world.specs.Next.{next_of as next_from, is_call, is_built_next};
 ghost use Rattle.pipeline_lang.specs.declared.script.Statement.TheVariants as statement;
 

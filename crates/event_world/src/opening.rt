@@ -2,14 +2,15 @@
 
 ghost use Rattle.std.specs.Prelude.{◌≡◌, [], IfOk, replicate, length};
 ghost use Rattle.event_world.specs.Machine.{state_of, IsOpening};
-ghost use Rattle.rss_machine.specs.State.{start, opening_replica, built_replicas, opening_stage, no_call as no_call_there, no_session as no_session_there};
+ghost use Rattle.first_machine.specs.State.{start, opening_replica, built_replicas, opening_stage, no_call as no_call_there, no_session as no_session_there};
 
 use crate::acts::BUILT_REPLICAS;
 use crate::machine::Machine;
 use gryff_quorum::RegSession;
 use pipeline_lang::Config;
 use reg_replica::Replica;
-use rss_machine::{Call, Life, Stage};
+use first_machine::{Call, Stage};
+use rss_machine::Life;
 use rss_names::{Key, ServiceId};
 use rss_tables::RegWork;
 use rss_wire::{Net, Outbox};

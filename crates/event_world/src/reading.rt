@@ -3,9 +3,9 @@
 ghost use Rattle.std.specs.Prelude.{◌≡◌, ◌-◌, length, get_or, Some, None, is_some};
 ghost use Rattle.event_world.specs.Machine.{state_of};
 ghost use Rattle.event_world.specs.Asked.{round_step_of};
-ghost use Rattle.rss_machine.specs.Marks.{first_mark as first_of};
-ghost use Rattle.rss_machine.specs.Places.{stamp_of as stamp_in, work_stamp as stamp_by, phase_stamp as stamp_in_phase, has_ended as has_ended_in, is_read as is_read_work, keyed_stamp};
-ghost use Rattle.rss_machine.specs.State.{session_at, call_at};
+ghost use Rattle.first_machine.specs.Marks.{first_mark as first_of};
+ghost use Rattle.first_machine.specs.Places.{stamp_of as stamp_in, work_stamp as stamp_by, phase_stamp as stamp_in_phase, has_ended as has_ended_in, is_read as is_read_work, keyed_stamp};
+ghost use Rattle.first_machine.specs.State.{session_at, call_at};
 
 use crate::deliveries::first_mark;
 use crate::machine::Machine;

@@ -1,11 +1,11 @@
 //! Refusals: why a step is not made.
 
 ghost use Rattle.std.specs.Prelude.{◌≡◌, ◌+◌, ◌<◌, ◌^◌, true, None, IsTrue};
-ghost use Rattle.rss_machine.specs.State.{stage_at};
+ghost use Rattle.first_machine.specs.State.{stage_at};
 ghost use Rattle.event_world.specs.Machine.{state_of};
 ghost use Rattle.event_world.specs.Next.{next_of as next_from, is_call};
-ghost use Rattle.rss_machine.specs.Effect.{next_statement};
-ghost use Rattle.rss_machine.specs.Refusal.{refusal as refusal_of, kind_refusal as kind_refusal_of, may_act as may_act_in, is_live, is_over as is_over_life};
+ghost use Rattle.first_machine.specs.Effect.{next_statement};
+ghost use Rattle.first_machine.specs.Refusal.{refusal as refusal_of, kind_refusal as kind_refusal_of, may_act as may_act_in, is_live, is_over as is_over_life};
 
 use crate::machine::Machine;
 use crate::next::{Next, next_at};
@@ -16,7 +16,7 @@ use truetime::Contradiction;
 
 impl Machine {
     /// Why a step is refused, if it is: the first cause that applies.
-    #[tactic(auto, unfolding(rss_machine::specs::Refusal::refusal))]
+    #[tactic(auto, unfolding(first_machine::specs::Refusal::refusal))]
     pub fn refusal(&self, config: &Config, s: &Step) -> Option<StepRefusal>
         ensures { result ≡ refusal_of config.now (state_of self.now) s.now }
     {

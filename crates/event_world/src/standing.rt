@@ -2,19 +2,20 @@
 
 ghost use Rattle.std.specs.Prelude.{◌≡◌, ◌+◌, ◌≤◌, length};
 ghost use Rattle.event_world.specs.Machine.{state_of};
-ghost use Rattle.rss_machine.specs.Endings.{ending_of, life_state as life_state_of, is_settled as is_settled_in, is_hurt as is_hurt_in, stage_settled, stage_hurt, any_may_act as any_may_act_in};
-ghost use Rattle.rss_machine.specs.Refusal.{may_act as may_act_in};
+ghost use Rattle.first_machine.specs.Endings.{ending_of, life_state as life_state_of, is_settled as is_settled_in, is_hurt as is_hurt_in, stage_settled, stage_hurt, any_may_act as any_may_act_in};
+ghost use Rattle.first_machine.specs.Refusal.{may_act as may_act_in};
 ghost use Rattle.std.specs.List.{list_all, list_any};
 
 use crate::machine::Machine;
 use pipeline_lang::Config;
-use rss_machine::{Ending, Life, Stage, StageState};
+use first_machine::Stage;
+use rss_machine::{Ending, Life, StageState};
 use rss_model::How;
 use rss_names::StageId;
 
 impl Machine {
     /// How the run stands.
-    #[tactic(auto, unfolding(rss_machine::specs::Endings::ending_of))]
+    #[tactic(auto, unfolding(first_machine::specs::Endings::ending_of))]
     pub fn ending(&self, config: &Config) -> Ending
         requires { length self.now.stages.items ≤ 16 }
         ensures { result ≡ ending_of config.now (state_of self.now) }

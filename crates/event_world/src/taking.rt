@@ -3,10 +3,10 @@
 ghost use Rattle.std.specs.Prelude.{◌≡◌, ◌+◌, ◌<◌, ◌≤◌, ◌^◌, [], None, IsTrue};
 ghost use Rattle.event_world.specs.Machine.{state_of, HasRoom};
 ghost use Rattle.event_world.specs.Ready.{IsReady, IsReadyForStep};
-ghost use Rattle.rss_machine.specs.Effect.{stepped, effect as effect_of};
-ghost use Rattle.rss_machine.specs.Moves.{ticks};
+ghost use Rattle.first_machine.specs.Effect.{stepped, effect as effect_of};
+ghost use Rattle.first_machine.specs.Moves.{ticks};
 ghost use Rattle.truetime.specs.TrueMoment.{admits};
-ghost use Rattle.rss_machine.specs.Refusal.{refusal as refusal_of, kind_refusal};
+ghost use Rattle.first_machine.specs.Refusal.{refusal as refusal_of, kind_refusal};
 
 use crate::machine::Machine;
 use pipeline_lang::Config;
@@ -42,7 +42,7 @@ impl Machine {
     }
 
     // Makes a step of this kind, which was counted.
-    #[tactic(auto, unfolding(rss_machine::specs::Effect::effect))]
+    #[tactic(auto, unfolding(first_machine::specs::Effect::effect))]
     fn make(&mut self, config: &Config, kind: StepKind)
         requires allowed { kind_refusal config.now (state_of self.old) kind ≡ None }
         requires ready { IsReady self.old }

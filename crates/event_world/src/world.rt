@@ -2,22 +2,23 @@
 
 ghost use Rattle.std.specs.Prelude.{◌≡◌, ◌≤◌, ◌++◌, ◌∷◌, [], OnOk, OnErr, IfOk, IfErr, IsTrue, None, Some, ◌↔◌};
 ghost use Rattle.event_world.specs.World.{Takes, SameWorld, IsNew};
-ghost use Rattle.rss_machine.specs.Built.{is_built};
-ghost use Rattle.rss_machine.specs.Endings.{ending_of, life_state as life_state_of};
-ghost use Rattle.rss_machine.specs.State.{stage_at, session_at};
-ghost use Rattle.rss_machine.specs.Places.{stamp_of as stamp_in, has_ended, is_read};
-ghost use Rattle.rss_machine.specs.Marks.{first_mark};
+ghost use Rattle.first_machine.specs.Built.{is_built};
+ghost use Rattle.first_machine.specs.Endings.{ending_of, life_state as life_state_of};
+ghost use Rattle.first_machine.specs.State.{stage_at, session_at};
+ghost use Rattle.first_machine.specs.Places.{stamp_of as stamp_in, has_ended, is_read};
+ghost use Rattle.first_machine.specs.Marks.{first_mark};
 ghost use Rattle.event_world.specs.Asked.{round_step_of};
 ghost use Rattle.std.specs.Prelude.{◌+◌, length};
-ghost use Rattle.rss_machine.specs.Refusal.{refusal};
-ghost use Rattle.rss_machine.specs.Run.{run, steps_of, readings_of};
+ghost use Rattle.first_machine.specs.Refusal.{refusal};
+ghost use Rattle.first_machine.specs.Run.{run, steps_of, readings_of};
 ghost use Rattle.truetime.specs.Reading.{AreConsistent};
 
 use crate::machine::Machine;
 use crate::standing::life_state;
 use carstamps::Carstamp;
 use pipeline_lang::Config;
-use rss_machine::{Ending, Logged, Stage, StageState, Step, StepRefusal};
+use first_machine::Stage;
+use rss_machine::{Ending, Logged, StageState, Step, StepRefusal};
 use rss_model::Entry;
 use rss_names::{CallId, Key, StageId};
 use std::alloc::{AllocError, Global};

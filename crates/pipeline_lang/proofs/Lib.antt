@@ -1,1 +1,17 @@
 pub mod Positions
+pub mod Words
+pub mod Parts
+pub mod LineLaws
+pub mod ScriptLaws
+pub mod NumbersAgain
+pub mod Printed
+pub mod WordsAgain
+pub mod TermsAgain
+pub mod ListsAgain
+pub mod StatementsAgain
+pub mod ScriptsAgain
+pub mod Spelled
+pub mod TermsRead
+pub mod StatementsRead
+pub mod Reread
+pub mod Grammatical

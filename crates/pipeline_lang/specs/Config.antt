@@ -1,5 +1,5 @@
 -- readers of a configuration: total, with a value of no meaning where there is no such number
-use Rattle.std.specs.Prelude.{ℕ, ◌+◌, ◌-◌, ◌/◌, if◌then◌else◌, List, [], ◌∷◌, get_or}
+use Rattle.std.specs.Prelude.{ℕ, ◌-◌, if◌then◌else◌, List, [], ◌∷◌, get_or}
 use Rattle.rss_names.specs.declared.service.ServiceId.{ServiceId}
 use Rattle.rss_names.specs.declared.service.ServiceId.TheVariants.{Txn, Reg}
 use Rattle.rss_names.specs.declared.service.Key.{Key}
@@ -93,11 +93,3 @@ service_name_among id (d ∷ ds) = if same_service id d.id then d.name else serv
 -- the name of a service
 abbrev pub service_name : Config → ServiceId → List ℕ
 service_name c id = service_name_among id c.services
-
--- the least number of n replicas that is more than half of them
-abbrev pub majority : ℕ → ℕ
-majority n = n / 2 + 1
-
--- how many of n replicas a majority can spare
-abbrev pub spare : ℕ → ℕ
-spare n = n - majority n

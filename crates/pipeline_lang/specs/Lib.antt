@@ -1,2 +1,10 @@
 pub mod Config
 pub mod Positions
+pub mod Tokens
+pub mod Reading
+pub mod Terms
+pub mod Statements
+pub mod Scripts
+pub mod Printing
+pub mod Spelled
+pub mod Grammar

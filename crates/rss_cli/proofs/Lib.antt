@@ -1,5 +1,4 @@
 pub mod Tables
-pub mod Words
-pub mod Forms
 pub mod Plays
 pub mod OneWord
+pub mod Sums

@@ -3,9 +3,9 @@ use Rattle.std.proofs.Common.{◌≡◌, ℕ, ◌+◌, ◌<◌, ◌≤◌, List,
 use Rattle.std.proofs.lemmas.Grind.{common_steps}
 use Rattle.pipeline_lang.specs.declared.config.Config.{Config}
 use Rattle.truetime.specs.Reading.{AreConsistent}
-use Rattle.rss_machine.specs.State.{State}
-use Rattle.rss_machine.specs.Refusal.{refusal}
-use Rattle.rss_machine.specs.Run.{run, steps_of, readings_of}
+use Rattle.first_machine.specs.State.{State}
+use Rattle.first_machine.specs.Refusal.{refusal}
+use Rattle.first_machine.specs.Run.{run, steps_of, readings_of}
 use Rattle.rss_machine.specs.declared.step.Step.{Step}
 use Rattle.rss_machine.specs.declared.step.Logged.{Logged}
 use Rattle.rss_machine.specs.declared.step.StepRefusal.{StepRefusal}

@@ -1,23 +1,24 @@
 -- What the top call answers: which text and status, for which words and input.
-use Rattle.std.specs.Prelude.{ℕ, ◌≡◌, ◌≢◌, ◌<◌, ◌≤◌, ◌⊎◌, Bool, true, false, List, [], ◌∷◌, length, Option, codes}
+use Rattle.std.specs.Prelude.{ℕ, ◌≡◌, ◌≢◌, ◌<◌, ◌≤◌, ◌⊎◌, Bool, true, false, List, [], ◌∷◌, length, Option, Result, Ok, Err, codes}
 use Rattle.std.specs.Io.KnownBytes.{Appends, Keeps}
 use Rattle.rss_io.specs.Pieces.{AppendsFront}
 use Rattle.pipeline_lang.specs.declared.config.Config.{Config}
-use Rattle.rss_machine.specs.State.{State}
-use Rattle.rss_machine.specs.Endings.{ending_of}
+use Rattle.first_machine.specs.State.{State}
+use Rattle.first_machine.specs.Endings.{ending_of}
 use Rattle.rss_machine.specs.declared.step.Step.{Step}
 use Rattle.rss_machine.specs.declared.step.StepRefusal.{StepRefusal}
 use Rattle.step_text.specs.Spelling.{text_of}
 use Rattle.step_text.specs.Texts.{IsBadStep}
 use Rattle.rss_cli.specs.FaultText.{fault_text}
-use Rattle.rss_cli.specs.Form.{IsForm}
+use Rattle.rss_cli.specs.Served.{is_served}
 use Rattle.rss_cli.specs.Played.{IsRun, IsFirstRefused}
 use Rattle.rss_cli.specs.Reported.{IsReport}
 use Rattle.rss_cli.specs.Split.{Splits}
 use Rattle.rss_cli.specs.Statuses.{status_of}
 use Rattle.rss_cli.specs.declared.fault.Fault.{Fault}
 use Rattle.rss_cli.specs.declared.fault.Fault.TheVariants as fault
-use Rattle.rss_cli.specs.declared.fault.FileFault.TheVariants.{NotBuilt, OverLimit}
+use Rattle.pipeline_tables.specs.declared.fault.FileFault.{FileFault}
+use Rattle.pipeline_file.specs.Document.{config_of}
 use Rattle.rss_cli.specs.declared.status.Status.{Status}
 use Rattle.rss_cli.specs.declared.status.Status.TheVariants.{Done, Unfinished, Limit, Stuck, Hurt, Usage, File, BadStep, ReadFault, WriteFault, OutOfMemory}
 
@@ -58,21 +59,52 @@ pub record IsOffGrammar (behind text : List ℕ) (status : Status) : Type 0 wher
 abbrev pub IsStepsAnswer : Config → List ℕ → List ℕ → Status → Type 0
 IsStepsAnswer c behind text status = IsSpelled c behind text status ⊎ IsOffGrammar behind text status
 
--- the file has the form that is built, and says this configuration
-pub record IsBuiltFile (file behind text : List ℕ) (status : Status) : Type 0 where
-  pub config : Config
-  pub form : IsForm file config
+-- the file is one that runs
+pub record IsBuiltFile (config : Config) (behind text : List ℕ) (status : Status) : Type 0 where
+  pub built : is_served config ≡ true
   pub answer : IsStepsAnswer config behind text status
 
--- the file has not the form that is built
-pub record IsNotBuilt (file text : List ℕ) (status : Status) : Type 0 where
-  pub none : (c : Config) → IsForm file c → ⊥
-  pub told : text ≡ fault_text (fault.File NotBuilt)
+-- the file is valid, and does not run yet
+pub record IsNotBuilt (config : Config) (text : List ℕ) (status : Status) : Type 0 where
+  pub not_built : is_served config ≡ false
+  pub told : text ≡ fault_text fault.NotBuilt
   pub status_is : status ≡ File
+
+-- the answer to a configuration and the step text behind it
+abbrev pub IsConfigAnswer : Config → List ℕ → List ℕ → Status → Type 0
+IsConfigAnswer config behind text status = IsBuiltFile config behind text status ⊎ IsNotBuilt config text status
+
+-- the file says this configuration
+pub record IsValidFile (file behind text : List ℕ) (status : Status) : Type 0 where
+  pub config : Config
+  pub says : config_of file ≡ Ok config
+  pub answer : IsConfigAnswer config behind text status
+
+-- the file has this fault first
+pub record IsFaultyFile (file text : List ℕ) (status : Status) : Type 0 where
+  pub first : FileFault
+  pub says : config_of file ≡ Err first
+  pub told : text ≡ fault_text (fault.File first)
+  pub status_is : status ≡ File
+
+-- the longest step text
+abbrev pub steps_limit : ℕ
+steps_limit = 16777216
+
+-- the step text is longer than its limit
+pub record AreStepsTooLong (behind text : List ℕ) (status : Status) : Type 0 where
+  pub long : steps_limit < length behind
+  pub told : text ≡ fault_text fault.TooLong
+  pub status_is : status ≡ File
+
+-- the step text is no longer than its limit
+pub record IsFileAnswer (file behind text : List ℕ) (status : Status) : Type 0 where
+  pub short : length behind ≤ steps_limit
+  pub answer : IsValidFile file behind text status ⊎ IsFaultyFile file text status
 
 -- the answer to a file and the step text behind it
 abbrev pub IsReplayed : List ℕ → List ℕ → List ℕ → Status → Type 0
-IsReplayed file behind text status = IsBuiltFile file behind text status ⊎ IsNotBuilt file text status
+IsReplayed file behind text status = IsFileAnswer file behind text status ⊎ AreStepsTooLong behind text status
 
 -- the longest input: a file, the line `%steps`, and step text
 abbrev pub input_limit : ℕ
@@ -89,7 +121,7 @@ pub record IsRead (input text : List ℕ) (status : Status) : Type 0 where
 -- the input is longer than its limit
 pub record IsTooLong (input text : List ℕ) (status : Status) : Type 0 where
   pub long : input_limit < length input
-  pub told : text ≡ fault_text (fault.File OverLimit)
+  pub told : text ≡ fault_text fault.TooLong
   pub status_is : status ≡ File
 
 -- the words are no command

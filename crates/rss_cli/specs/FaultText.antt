@@ -5,15 +5,14 @@ use Rattle.rss_machine.specs.declared.step.StepRefusal.{StepRefusal}
 use Rattle.rss_machine.specs.declared.step.StepRefusal.TheVariants as cause
 use Rattle.rss_wire.specs.declared.refusal.NetRefusal.{NetRefusal}
 use Rattle.rss_wire.specs.declared.refusal.NetRefusal.TheVariants.{NoSuchMessage, Lost, Delivered, NotDelivered, AgainUsed}
-use Rattle.rss_cli.specs.declared.fault.FileFault.{FileFault}
-use Rattle.rss_cli.specs.declared.fault.FileFault.TheVariants.{NotBuilt, OverLimit}
+use Rattle.pipeline_tables.specs.FaultText.{fault_text as kind_and_place}
+use Rattle.pipeline_tables.specs.declared.fault.FileFault.{FileFault}
 use Rattle.rss_cli.specs.declared.fault.Fault.{Fault}
-use Rattle.rss_cli.specs.declared.fault.Fault.TheVariants.{Usage, File, OffGrammar, Refused}
+use Rattle.rss_cli.specs.declared.fault.Fault.TheVariants.{Usage, File, TooLong, NotBuilt, OffGrammar, Refused}
 
--- the name of a file's fault
+-- the line of a file's fault: its kind and its place
 abbrev pub file_text : FileFault → List ℕ
-file_text NotBuilt = codes "NotBuilt"
-file_text OverLimit = codes "OverLimit"
+file_text fault = codes "fault file " ++ kind_and_place fault ++ codes "\n"
 
 -- the name of a message's refusal
 abbrev pub net_text : NetRefusal → List ℕ
@@ -35,6 +34,8 @@ refusal_text cause.NotEnabled = codes "NotEnabled"
 -- the line of a fault
 unfoldable pub fault_text : Fault → List ℕ
 fault_text Usage = codes "fault usage\n"
-fault_text (File fault) = codes "fault file " ++ file_text fault ++ codes " file\n"
+fault_text (File fault) = file_text fault
+fault_text TooLong = codes "fault file OverLimit file\n"
+fault_text NotBuilt = codes "fault file NotBuilt file\n"
 fault_text (OffGrammar number column) = codes "fault step " ++ decimal number ++ codes " column " ++ decimal column ++ codes "\n"
 fault_text (Refused number cause) = codes "fault step " ++ decimal number ++ codes " " ++ refusal_text cause ++ codes "\n"

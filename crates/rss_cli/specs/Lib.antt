@@ -1,7 +1,6 @@
 pub mod Statuses
 pub mod FaultText
-pub mod Form
-pub mod FormReading
+pub mod Served
 pub mod Split
 pub mod Played
 pub mod Reported

@@ -2,9 +2,9 @@
 use Rattle.std.specs.Prelude.{ℕ, ◌≡◌, ◌+◌, List, [], ◌∷◌, ◌++◌, length, Some}
 use Rattle.pipeline_lang.specs.declared.config.Config.{Config}
 use Rattle.truetime.specs.Reading.{AreConsistent}
-use Rattle.rss_machine.specs.State.{State}
-use Rattle.rss_machine.specs.Refusal.{refusal}
-use Rattle.rss_machine.specs.Run.{run, readings_of}
+use Rattle.first_machine.specs.State.{State}
+use Rattle.first_machine.specs.Refusal.{refusal}
+use Rattle.first_machine.specs.Run.{run, readings_of}
 use Rattle.rss_machine.specs.declared.step.Step.{Step}
 use Rattle.rss_machine.specs.declared.step.Logged.{Logged}
 use Rattle.rss_machine.specs.declared.step.StepRefusal.{StepRefusal}

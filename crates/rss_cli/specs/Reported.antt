@@ -1,9 +1,9 @@
 -- The report of a state: its text, with the calls at their places.
 use Rattle.std.specs.Prelude.{ℕ, ◌≡◌, List}
 use Rattle.pipeline_lang.specs.declared.config.Config.{Config}
-use Rattle.rss_machine.specs.State.{State}
-use Rattle.rss_machine.specs.Places.{ArePlaces}
-use Rattle.rss_machine.specs.ReportText.{report_text}
+use Rattle.first_machine.specs.State.{State}
+use Rattle.first_machine.specs.Places.{ArePlaces}
+use Rattle.first_machine.specs.ReportText.{report_text}
 use Rattle.rss_machine.specs.declared.place.Placed.{Placed}
 
 -- this is the report of a state

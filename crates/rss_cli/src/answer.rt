@@ -1,27 +1,29 @@
 //! Answers: the text and the status for an input, all made before the first byte is written.
 
-ghost use Rattle.std.specs.Prelude.{◌≡◌, ◌≤◌, ◌<◌, ◌^◌, true, IsTrue, IfOk, length};
-ghost use Rattle.rss_machine.specs.Built.{is_built};
-ghost use Rattle.rss_machine.specs.Endings.{ending_of};
-ghost use Rattle.rss_cli.specs.Answer.{IsRead, IsReplayed, IsPlayed, IsStepsAnswer, IsNotBuilt, input_limit, is_answer};
-ghost use Rattle.pipeline_lang.specs.declared.config.Config.{Config as Configured};
+ghost use Rattle.std.specs.Prelude.{◌≡◌, ◌≤◌, true, false, IfOk, length};
+ghost use Rattle.first_machine.specs.Endings.{ending_of};
+ghost use Rattle.rss_cli.specs.Answer.{IsRead, IsReplayed, IsPlayed, IsStepsAnswer, IsFileAnswer, IsConfigAnswer, IsNotBuilt, steps_limit, input_limit, is_answer};
 ghost use Rattle.rss_cli.specs.FaultText.{fault_text};
-ghost use Rattle.rss_cli.specs.Form.{IsForm};
+ghost use Rattle.rss_cli.specs.Served.{is_served};
 ghost use Rattle.rss_cli.specs.Reported.{IsReport};
 ghost use Rattle.rss_cli.specs.Statuses.{status_of};
 
-use crate::fault::{Fault, FileFault};
+use crate::fault::Fault;
 use crate::fault_lines::fault_line;
-use crate::form::{FormError, form_of};
 use crate::play::{PlayError, play};
 use crate::reporting::report;
+use crate::served::served;
 use crate::split::split;
 use crate::status::Status;
 use event_world::World;
+use pipeline_file::{FileError, read};
 use pipeline_lang::Config;
 use rss_machine::Step;
 use std::alloc::{AllocError, Global};
 use step_text::{StepTextError, read_steps};
+
+/// The longest step text, in bytes.
+const LONGEST_STEPS: usize = 16_777_216;
 
 /// The text to write, and the status to end with once it is written.
 #[derive(Drop)]
@@ -42,32 +44,56 @@ pub fn answer_of(alloc: Global, input: &[u8]) -> Result<Answer, AllocError>
 
 // The answer to a file and the step text behind it.
 fn replayed(alloc: Global, file: &[u8], behind: &[u8]) -> Result<Answer, AllocError>
-    requires { length behind.now < 2 ^ 32 }
     ensures answer { IfOk result (λ a. IsReplayed file.now behind.now a.text.items a.status) }
     ensures status { IfOk result (λ a. is_answer a.status ≡ true) }
 {
-    match form_of(alloc, file) {
-        Ok(config) => steps_answer(alloc, config, behind),
-        Err(FormError::NotBuilt) => not_built(alloc, file),
-        Err(FormError::OutOfMemory) => Err(AllocError),
+    if behind.len() > LONGEST_STEPS {
+        fault_answer(alloc, Fault::TooLong, Status::File)
+    } else {
+        file_answer(alloc, file, behind)
     }
 }
 
-// The answer to a file that has not the form that is built.
-fn not_built(alloc: Global, file: &[u8]) -> Result<Answer, AllocError>
-    requires { (c : Configured) → IsForm file.now c → ⊥ }
-    ensures answer { IfOk result (λ a. IsNotBuilt file.now a.text.items a.status) }
+// The answer to a file and a step text that is not too long.
+fn file_answer(alloc: Global, file: &[u8], behind: &[u8]) -> Result<Answer, AllocError>
+    requires short { length behind.now ≤ steps_limit }
+    ensures answer { IfOk result (λ a. IsFileAnswer file.now behind.now a.text.items a.status) }
     ensures status { IfOk result (λ a. is_answer a.status ≡ true) }
 {
-    let _ = file;
-    fault_answer(alloc, Fault::File(FileFault::NotBuilt), Status::File)
+    match read(alloc, file) {
+        Ok(config) => config_answer(alloc, config, behind),
+        Err(FileError::Fault(first)) => fault_answer(alloc, Fault::File(first), Status::File),
+        Err(FileError::OutOfMemory) => Err(AllocError),
+    }
+}
+
+// The answer to a configuration and the step text behind it.
+fn config_answer(alloc: Global, config: Config, behind: &[u8]) -> Result<Answer, AllocError>
+    requires short { length behind.now ≤ steps_limit }
+    ensures answer { IfOk result (λ a. IsConfigAnswer config behind.now a.text.items a.status) }
+    ensures status { IfOk result (λ a. is_answer a.status ≡ true) }
+{
+    if served(&config) {
+        steps_answer(alloc, config, behind)
+    } else {
+        not_built(alloc, &config)
+    }
+}
+
+// The answer to a configuration that does not run yet.
+fn not_built(alloc: Global, config: &Config) -> Result<Answer, AllocError>
+    requires { is_served config.now ≡ false }
+    ensures answer { IfOk result (λ a. IsNotBuilt config.now a.text.items a.status) }
+    ensures status { IfOk result (λ a. is_answer a.status ≡ true) }
+{
+    let _ = config;
+    fault_answer(alloc, Fault::NotBuilt, Status::File)
 }
 
 // The answer to the step text of a configuration.
 fn steps_answer(alloc: Global, config: Config, behind: &[u8]) -> Result<Answer, AllocError>
-    requires built { IsTrue (is_built config) }
-    requires limit { config.max_steps ≤ 200000 }
-    requires short { length behind.now < 2 ^ 32 }
+    requires built { is_served config ≡ true }
+    requires short { length behind.now ≤ steps_limit }
     ensures answer { IfOk result (λ a. IsStepsAnswer config behind.now a.text.items a.status) }
     ensures status { IfOk result (λ a. is_answer a.status ≡ true) }
 {
@@ -86,8 +112,7 @@ fn steps_answer(alloc: Global, config: Config, behind: &[u8]) -> Result<Answer, 
 
 // The answer to a list of steps of a configuration.
 fn played(alloc: Global, config: Config, steps: &[Step]) -> Result<Answer, AllocError>
-    requires built { IsTrue (is_built config) }
-    requires limit { config.max_steps ≤ 200000 }
+    requires built { is_served config ≡ true }
     ensures answer { IfOk result (λ a. IsPlayed config steps.now a.text.items a.status) }
     ensures status { IfOk result (λ a. is_answer a.status ≡ true) }
 {

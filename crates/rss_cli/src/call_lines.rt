@@ -2,7 +2,7 @@
 
 ghost use Rattle.std.specs.Prelude.{◌≡◌, ◌++◌, OnOk};
 ghost use Rattle.std.specs.Option.{option_copied};
-ghost use Rattle.rss_machine.specs.ReportText.{reply_in, place_in, shown_text, body_text, call_state_text, place_text, call_line, call_lines};
+ghost use Rattle.first_machine.specs.ReportText.{reply_in, place_in, shown_text, body_text, call_state_text, place_text, call_line, call_lines};
 
 use crate::names::{put_register, put_stage};
 use crate::text::{put, put_number};
@@ -114,7 +114,7 @@ fn put_call_state(out: &mut Vec<u8>, reply: Option<&[Shown]>) -> Result<(), Allo
 }
 
 /// Appends the line of a call.
-#[tactic(auto, unfolding(rss_machine::specs::ReportText::call_line))]
+#[tactic(auto, unfolding(first_machine::specs::ReportText::call_line))]
 fn put_call(
     alloc: Global,
     out: &mut Vec<u8>,

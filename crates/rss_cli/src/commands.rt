@@ -7,7 +7,7 @@ ghost use Rattle.rss_io.specs.Faults.{Rose};
 ghost use Rattle.rss_cli.specs.Answer.{Wrote, IsAnswer, is_answer, is_report, input_limit};
 
 use crate::answer::{Answer, answer_of, fault_answer};
-use crate::fault::{Fault, FileFault};
+use crate::fault::Fault;
 use crate::status::Status;
 use rss_io::{ReadError, Sink, Source, read_all, write_all};
 use std::alloc::{AllocError, Global};
@@ -16,7 +16,8 @@ use std::alloc::{AllocError, Global};
 const LONGEST_INPUT: usize = 17_825_799;
 
 /// The command of these words: reads the source, and writes a report or the line of a fault to the
-/// sink. The whole text is made before its first byte is written.
+/// sink. The whole text is made before its first byte is written. Other words than a command's are
+/// refused before a byte is read.
 ///
 /// Today every command is served by `still_top`.
 pub fn top<S: Source, K: Sink>(
@@ -30,11 +31,13 @@ pub fn top<S: Source, K: Sink>(
     ensures read_to_end { IsTrue (is_report result) → IsAtEnd (S.left source.new) }
     ensures read { result ≡ Status.ReadFault → Rose (S.source_faults source.old) (S.source_faults source.new) }
     ensures write { result ≡ Status.WriteFault → Rose (K.sink_faults sink.old) (K.sink_faults sink.new) }
+    ensures unread { (map string_bytes words.now ≡ codes "replay" ∷ [] → ⊥) → Keeps (S.left source.old) (S.left source.new) }
 {
     still_top(alloc, words, source, sink)
 }
 
-/// The commands that wait for nobody: `replay`.
+/// The commands that wait for nobody: `replay`. Other words than a command's are refused before a
+/// byte is read.
 pub fn still_top<S: Source, K: Sink>(
     alloc: Global,
     words: &[String],
@@ -46,6 +49,7 @@ pub fn still_top<S: Source, K: Sink>(
     ensures read_to_end { IsTrue (is_report result) → IsAtEnd (S.left source.new) }
     ensures read { result ≡ Status.ReadFault → Rose (S.source_faults source.old) (S.source_faults source.new) }
     ensures write { result ≡ Status.WriteFault → Rose (K.sink_faults sink.old) (K.sink_faults sink.new) }
+    ensures unread { (map string_bytes words.now ≡ codes "replay" ∷ [] → ⊥) → Keeps (S.left source.old) (S.left source.new) }
 {
     match respond(alloc, words, source) {
         Ok(answer) => match write_all(sink, answer.text.as_slice()) {
@@ -71,6 +75,7 @@ fn respond<S: Source>(alloc: Global, words: &[String], source: &mut S) -> Result
     ensures status { IfOk result (λ a. is_answer a.status ≡ true) }
     ensures read_to_end { IfOk result (λ a. IsTrue (is_report a.status) → IsAtEnd (S.left source.new)) }
     ensures read { result ≡ Err Halt.ReadFault → Rose (S.source_faults source.old) (S.source_faults source.new) }
+    ensures unread { (map string_bytes words.now ≡ codes "replay" ∷ [] → ⊥) → Keeps (S.left source.old) (S.left source.new) }
 {
     if !is_replay(words) {
         return made(fault_answer(alloc, Fault::Usage, Status::Usage));
@@ -78,7 +83,7 @@ fn respond<S: Source>(alloc: Global, words: &[String], source: &mut S) -> Result
     match read_all(alloc, source, LONGEST_INPUT) {
         Ok(input) => made(answer_of(alloc, input.as_slice())),
         Err(ReadError::TooLong) => {
-            made(fault_answer(alloc, Fault::File(FileFault::OverLimit), Status::File))
+            made(fault_answer(alloc, Fault::TooLong, Status::File))
         }
         Err(ReadError::ReadFault) => Err(Halt::ReadFault),
         Err(ReadError::OutOfMemory) => Err(Halt::OutOfMemory),

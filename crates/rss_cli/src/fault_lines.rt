@@ -3,19 +3,20 @@
 ghost use Rattle.std.specs.Prelude.{◌≡◌, ◌++◌, OnOk, IfOk};
 ghost use Rattle.rss_cli.specs.FaultText.{file_text, net_text, refusal_text, fault_text};
 
-use crate::fault::{Fault, FileFault};
+use crate::fault::Fault;
 use crate::text::{put, put_number};
+use pipeline_file::FileFault;
 use rss_machine::StepRefusal;
 use rss_wire::NetRefusal;
 use std::alloc::{AllocError, Global};
 
-fn put_file(out: &mut Vec<u8>, fault: FileFault) -> Result<(), AllocError>
+// The fault of a file, and its place.
+fn put_file(alloc: Global, out: &mut Vec<u8>, fault: FileFault) -> Result<(), AllocError>
     ensures { OnOk result (out.new.items ≡ out.old.items ++ file_text fault) }
 {
-    match fault {
-        FileFault::NotBuilt => put(out, b"NotBuilt"),
-        FileFault::OverLimit => put(out, b"OverLimit"),
-    }
+    put(out, b"fault file ")?;
+    fault.append_to(alloc, out)?;
+    put(out, b"\n")
 }
 
 fn put_net(out: &mut Vec<u8>, refusal: NetRefusal) -> Result<(), AllocError>
@@ -57,11 +58,9 @@ fn put_fault(alloc: Global, out: &mut Vec<u8>, fault: Fault) -> Result<(), Alloc
 {
     match fault {
         Fault::Usage => put(out, b"fault usage\n"),
-        Fault::File(fault) => {
-            put(out, b"fault file ")?;
-            put_file(out, fault)?;
-            put(out, b" file\n")
-        }
+        Fault::File(fault) => put_file(alloc, out, fault),
+        Fault::TooLong => put(out, b"fault file OverLimit file\n"),
+        Fault::NotBuilt => put(out, b"fault file NotBuilt file\n"),
         Fault::OffGrammar { number, column } => {
             put(out, b"fault step ")?;
             put_number(alloc, out, number)?;

@@ -1,4 +1,4 @@
-//! Code: the commands: the input's fixed form, the report, the texts of faults, and the top call.
+//! Code: the commands: the input's two parts, the report, the texts of faults, and the top call.
 #![tactic(auto)]
 
 mod answer;
@@ -6,11 +6,10 @@ mod call_lines;
 mod commands;
 mod fault;
 mod fault_lines;
-mod form;
-mod form_words;
 mod names;
 mod play;
 mod reporting;
+mod served;
 mod split;
 mod stage_lines;
 mod status;

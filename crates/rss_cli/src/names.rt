@@ -1,7 +1,7 @@
 //! The names of stages and registers.
 
 ghost use Rattle.std.specs.Prelude.{◌≡◌, ◌++◌, ◌+◌, [], OnOk, get_or};
-ghost use Rattle.rss_machine.specs.ReportText.{stage_name, register_name};
+ghost use Rattle.first_machine.specs.ReportText.{stage_name, register_name};
 
 use crate::text::put;
 use pipeline_lang::{Config, NameTable};

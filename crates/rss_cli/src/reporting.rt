@@ -11,7 +11,7 @@ use std::alloc::{AllocError, Global};
 
 /// The report of a World: a line for each call in the order of their beginnings, a line for each
 /// stage in file order, and the line of the ending.
-#[tactic(auto, unfolding(rss_machine::specs::ReportText::report_text))]
+#[tactic(auto, unfolding(first_machine::specs::ReportText::report_text))]
 pub fn report(alloc: Global, w: &World) -> Result<Vec<u8>, AllocError>
     ensures { IfOk result (λ text. IsReport w.now.config w.now.state text.items) }
 {

@@ -1,13 +1,14 @@
 //! The lines of the stages, and of the ending.
 
 ghost use Rattle.std.specs.Prelude.{◌≡◌, ◌++◌, ◌+◌, OnOk};
-ghost use Rattle.rss_machine.specs.Endings.{life_state};
-ghost use Rattle.rss_machine.specs.ReportText.{how_text, stub_text, stage_state_text, stage_line, stage_lines, ending_word, ending_line};
+ghost use Rattle.first_machine.specs.Endings.{life_state};
+ghost use Rattle.first_machine.specs.ReportText.{how_text, stub_text, stage_state_text, stage_line, stage_lines, ending_word, ending_line};
 
 use crate::names::put_stage;
 use crate::text::put;
 use pipeline_lang::Config;
-use rss_machine::{Ending, Life, Stage, StageState};
+use first_machine::Stage;
+use rss_machine::{Ending, Life, StageState};
 use rss_model::How;
 use rss_tables::StubEnd;
 use std::alloc::AllocError;
@@ -63,7 +64,7 @@ fn standing_of(life: Life) -> StageState
 }
 
 /// Appends the line of the stage at a position in file order, from 0.
-#[tactic(auto, unfolding(rss_machine::specs::ReportText::stage_line))]
+#[tactic(auto, unfolding(first_machine::specs::ReportText::stage_line))]
 fn put_stage_line(
     out: &mut Vec<u8>,
     config: &Config,

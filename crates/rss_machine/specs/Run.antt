@@ -1,5 +1,5 @@
 -- Runs: the states that lists of steps lead to, where no step is refused.
-use Rattle.std.specs.Prelude.{ℕ, List, [], ◌∷◌, Option, Some, None, map}
+use Rattle.std.specs.Prelude.{ℕ, ◌+◌, List, [], ◌∷◌, Option, Some, None, map}
 use Rattle.truetime.specs.Reading.{Reading}
 use Rattle.pipeline_lang.specs.declared.config.Config.{Config}
 use Rattle.rss_model.specs.declared.history.Entry.{Entry}
@@ -33,3 +33,25 @@ steps_of (logged ∷ log) = logged.step ∷ steps_of log
 abbrev pub readings_of : List Step → List Reading
 readings_of [] = []
 readings_of (step ∷ steps) = step.at ∷ readings_of steps
+
+-- the history of a run; where there is no run, nothing
+abbrev pub history_in : Option State → List Entry
+history_in None = []
+history_in (Some s) = s.history
+
+abbrev pub history_of : Config → List Step → List Entry
+history_of c steps = history_in (run c steps)
+
+-- a cause with the number of its step, or what comes later
+abbrev pub or_later : ℕ → Option StepRefusal → Option (ℕ × StepRefusal) → Option (ℕ × StepRefusal)
+or_later n None later = later
+or_later n (Some cause) later = Some (n, cause)
+
+-- the first of these steps that is refused, counted from this number on, and why
+unfoldable pub refused_from : Config → State → ℕ → List Step → Option (ℕ × StepRefusal)
+refused_from c s n [] = None
+refused_from c s n (step ∷ steps) = or_later n (refusal c s step) (refused_from c (stepped c s step) (n + 1) steps)
+
+-- the first step of a list that is refused, and why
+abbrev pub first_refused : Config → List Step → Option (ℕ × StepRefusal)
+first_refused c steps = refused_from c (start c) 1 steps

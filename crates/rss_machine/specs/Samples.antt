@@ -1,103 +1,108 @@
--- Samples of the machine, each computed: a stage writes 5 to a register and reads it back, over three replicas.
-use Rattle.std.specs.Prelude.{◌≡◌, ℕ, ◌*◌, ◌+◌, Bool, true, false, List, [], ◌∷◌, ◌++◌, Option, Some, None, codes, refl}
-use Rattle.std.specs.Option.{option_map, option_and_then}
+-- Samples of the machine besides its reports, each computed.
+use Rattle.std.specs.Prelude.{◌≡◌, ℕ, Bool, true, false, List, [], ◌∷◌, length, Option, Some, None, refl}
+use Rattle.std.specs.Option.{option_map}
+use Rattle.std.specs.Fmt.{digits}
 use Rattle.rss_names.specs.declared.service.Key.{Key}
 use Rattle.rss_names.specs.declared.service.ServiceId.TheVariants.{Txn, Reg}
-use Rattle.pipeline_lang.specs.declared.config.Config.{Config}
-use Rattle.pipeline_lang.specs.declared.script.Statement.TheVariants.{Read, Write}
-use Rattle.pipeline_lang.specs.declared.script.Expr.TheVariants.{One}
-use Rattle.pipeline_lang.specs.declared.script.Term.TheVariants.{Number}
-use Rattle.rss_model.specs.declared.op.Op.TheVariants as op
-use Rattle.rss_model.specs.declared.history.Entry.{Entry}
-use Rattle.rss_model.specs.declared.history.Entry.TheVariants.{Begin, End, Give, Over}
-use Rattle.rss_model.specs.declared.history.How.TheVariants.{Exited}
-use Rattle.rss_model.specs.declared.history.Token.TheVariants.{Exit}
-use Rattle.rss_machine.specs.Built.{is_built}
-use Rattle.rss_machine.specs.Effect.{effect}
-use Rattle.rss_machine.specs.Endings.{ending_of}
-use Rattle.rss_machine.specs.Places.{keyed_calls, numbered}
-use Rattle.rss_machine.specs.Refusal.{refusal}
-use Rattle.rss_machine.specs.Run.{run, run_from}
-use Rattle.rss_machine.specs.State.{State, start}
-use Rattle.rss_machine.specs.StepOfStamp.{first_held, step_of_stamp}
+use Rattle.rss_names.specs.declared.service.Target.TheVariants.{Shard, Replica}
+use Rattle.carstamps.specs.declared.carstamp.Carstamp.{Carstamp}
+use Rattle.rss_model.specs.Cursor.{statements_to_end}
+use Rattle.rss_model.specs.Walk.{all_zero}
 use Rattle.rss_tables.specs.ReplicaRow.{replica_after, replica_reply}
-use Rattle.rss_machine.specs.declared.ending.Ending.{Ending}
-use Rattle.rss_machine.specs.declared.ending.Ending.TheVariants as ending
-use Rattle.rss_machine.specs.declared.place.Placed.{Placed}
-use Rattle.rss_machine.specs.declared.step.Step.{Step}
-use Rattle.rss_machine.specs.declared.step.StepKind.{StepKind}
-use Rattle.rss_machine.specs.declared.step.StepKind.TheVariants.{Act, Go, Lose}
-use Rattle.rss_machine.specs.declared.step.StepRefusal.TheVariants as cause
-use Rattle.rss_wire.specs.declared.refusal.NetRefusal.TheVariants as net
+use Rattle.rss_tables.specs.ShardRow.{shard_after, shard_reply}
+use Rattle.rss_machine.specs.Drivers.{driver_steps, killed_instead}
+use Rattle.rss_machine.specs.Effect.{effect}
+use Rattle.rss_machine.specs.Generated.{generated_addend, generated_file}
+use Rattle.rss_machine.specs.Places.{key_lt}
+use Rattle.rss_machine.specs.Refusal.{refusal}
+use Rattle.rss_machine.specs.RowsPolicy.{kill_by_the_file_file}
+use Rattle.rss_machine.specs.RowsRegister.{smallest_file, smallest_steps, place_is_not_call_number_file, place_is_not_call_number_steps}
+use Rattle.rss_machine.specs.RowsWithheld.{tries_two_lost_file, tries_three_lost_file, quorum_two_withheld_file, quorum_three_withheld_file}
+use Rattle.rss_machine.specs.Run.{run, run_from}
+use Rattle.rss_machine.specs.Serial.{serial, serial_from, strays, strays_from}
+use Rattle.rss_machine.specs.State.{State}
+use Rattle.rss_machine.specs.Times.{step_of_time, step_of_stamp, marked_step, first_held}
+use Rattle.rss_machine.specs.Withheld.{is_target_withheld, is_quorum_withheld, lost_from}
+use Rattle.rss_machine.specs.declared.place.PlacePart.TheVariants as part
+use Rattle.rss_machine.specs.declared.step.StepKind.TheVariants.{Act, Go, Lose, Again, Kill, Stub}
+use Rattle.rss_machine.specs.declared.turn.Fate.TheVariants as fate
+use Rattle.rss_machine.specs.declared.turn.Turn.TheVariants as turn
 
 abbrev r : Key
 r = record { service = Reg 1; index = 0 }
 
-abbrev file : Config
-file = record {
-  tries = 3;
-  max_steps = 100000;
-  drivers = 1;
-  services = record { name = codes "txn"; id = Txn 1; replicas = 0 } ∷ record { name = codes "reg"; id = Reg 1; replicas = 3 } ∷ [];
-  registers = codes "r" ∷ [];
-  register_services = Reg 1 ∷ [];
-  shards = [];
-  shard_services = [];
-  keys = [];
-  homes = [];
-  pipes = [];
-  pipe_ends = [];
-  stages = codes "a" ∷ [];
-  bodies = record { script = Write r (One (Number 5)) ∷ Read 1 r ∷ []; earliest_end = 2000 } ∷ [];
-  withholds = [];
-  kills = [];
-}
+abbrev first_stamp : Carstamp
+first_stamp = record { number = 1; call = 1 }
 
--- step number n, with a reading from 10n to 10n + 4
-abbrev at : ℕ → StepKind → Step
-at n kind = record { kind = kind; at = record { earliest = 10 * n; latest = 10 * n + 4 } }
-
-abbrev write_steps : List Step
-write_steps =
-    at 1 (Act 1) ∷ at 2 (Go 1) ∷ at 3 (Go 2) ∷ at 4 (Go 3) ∷ at 5 (Go 4) ∷ at 6 (Go 5) ∷ at 7 (Go 6) ∷ at 8 (Go 7) ∷ at 9 (Go 8) ∷ at 10 (Go 9) ∷ at 11 (Go 10) ∷ at 12 (Go 11) ∷ at 13 (Go 12) ∷ []
-
-abbrev read_steps : List Step
-read_steps =
-    at 14 (Act 1) ∷ at 15 (Go 13) ∷ at 16 (Go 14) ∷ at 17 (Go 15) ∷ at 18 (Go 16) ∷ at 19 (Go 17) ∷ at 20 (Go 18) ∷ at 21 (Act 1) ∷ []
-
--- the file runs
-file-built : is_built file ≡ true
-file-built = refl
-
--- what a run shows: its history, its placed calls from the first to the last, and its ending
-abbrev shows : State → List Entry × (List Placed × Ending)
-shows s = (s.history, (numbered 1 (keyed_calls s), ending_of file s))
-
--- the read returns what was written, and the write stands before it
-whole-run : option_map shows (run file (write_steps ++ read_steps)) ≡ Some (Begin 1 1 (op.Write r 5) ∷ End 1 [] ∷ Begin 2 1 (op.Read r) ∷ End 2 (record { key = r; value = 5; writer = 1 } ∷ []) ∷ Over 1 Exited ∷ Give 1 (Exit 1) ∷ [], (record { call = 1; place = 1; finished = true } ∷ record { call = 2; place = 2; finished = true } ∷ [], ending.Done))
-unfolding run run_from refusal effect replica_after replica_reply ending_of
-whole-run = refl
-
--- a write whose store is handled by one replica of three is placed, and has not ended
-half-written : option_map shows (run file (at 1 (Act 1) ∷ at 2 (Go 1) ∷ at 3 (Go 2) ∷ at 4 (Go 4) ∷ at 5 (Go 5) ∷ at 6 (Go 6) ∷ [])) ≡ Some (Begin 1 1 (op.Write r 5) ∷ [], (record { call = 1; place = 1; finished = false } ∷ [], ending.Unfinished))
-unfolding run run_from refusal effect replica_after replica_reply ending_of
-half-written = refl
-
--- the stamp of the write is first held by a majority after step 9
-stamp-step : step_of_stamp file (write_steps ++ read_steps) r (record { number = 1; call = 1 }) ≡ 9
-unfolding first_held effect replica_after replica_reply
+-- the stamp of the write is first held by a majority after step 9, by the list of steps and by the marks
+stamp-step : step_of_stamp smallest_file smallest_steps r first_stamp ≡ 9
+unfolding first_held effect replica_after replica_reply all_zero
 stamp-step = refl
 
--- a message that was delivered is not delivered again, and steps that are not built are refused
-delivered-once : refusal file (start file) (at 1 (Go 9)) ≡ Some (cause.Message net.NoSuchMessage)
-unfolding refusal
-delivered-once = refl
+marked-step : option_map (λ s. marked_step s r first_stamp) (run smallest_file smallest_steps) ≡ Some 9
+unfolding run run_from refusal effect replica_after replica_reply all_zero
+marked-step = refl
 
-lose-not-built : refusal file (start file) (at 1 (Lose 9)) ≡ Some cause.NotBuilt
-unfolding refusal
-lose-not-built = refl
+-- the true moment is above 44 first in step 5, and above 210 never
+time-step : option_map (λ s. step_of_time s 44) (run smallest_file smallest_steps) ≡ Some 5
+unfolding run run_from refusal effect replica_after replica_reply all_zero
+time-step = refl
 
--- a reading that ends before an earlier one began
-late-refused : option_map (λ s. refusal file s (record { kind = Go 1; at = record { earliest = 5; latest = 9 } })) (run file (record { kind = Act 1; at = record { earliest = 10; latest = 20 } } ∷ [])) ≡ Some (Some (cause.Reading record { greatest_earliest = 10; latest = 9 }))
-unfolding run run_from refusal effect
-late-refused = refl
+time-to-come : option_map (λ s. step_of_time s 210) (run smallest_file smallest_steps) ≡ Some 22
+unfolding run run_from refusal effect replica_after replica_reply all_zero
+time-to-come = refl
+
+-- at one step transactions stand before register calls, and those that write before those that read
+txn-first : key_lt (record { step = 7; part = part.Txn 99 true 9 }) (record { step = 7; part = part.Register 0 first_stamp false 1 }) ≡ true
+txn-first = refl
+
+writer-first : key_lt (record { step = 7; part = part.Txn 50 false 9 }) (record { step = 7; part = part.Txn 50 true 2 }) ≡ true
+writer-first = refl
+
+-- three withheld messages withhold a shard, and two do not
+three-withhold : is_target_withheld tries_three_lost_file (serial tries_three_lost_file) 1 (Shard 1) ≡ true
+unfolding lost_from serial_from effect shard_after shard_reply statements_to_end all_zero
+three-withhold = refl
+
+two-do-not : is_target_withheld tries_two_lost_file (serial tries_two_lost_file) 1 (Shard 1) ≡ false
+unfolding lost_from serial_from effect shard_after shard_reply statements_to_end all_zero
+two-do-not = refl
+
+-- three replicas of five withhold a quorum, and two do not
+three-of-five : is_quorum_withheld quorum_three_withheld_file (serial quorum_three_withheld_file) 1 (Reg 1) ≡ true
+unfolding lost_from serial_from effect replica_after replica_reply statements_to_end all_zero
+three-of-five = refl
+
+two-of-five : is_quorum_withheld quorum_two_withheld_file (serial quorum_two_withheld_file) 1 (Reg 1) ≡ false
+unfolding lost_from serial_from effect replica_after replica_reply statements_to_end all_zero
+two-of-five = refl
+
+-- the steps of the policy are turns, also where the file kills; messages and acts out of their turn are astray
+policy-strays : strays kill_by_the_file_file (serial kill_by_the_file_file) ≡ 0
+unfolding strays_from serial_from effect replica_after replica_reply statements_to_end all_zero
+policy-strays = refl
+
+some-strays : strays place_is_not_call_number_file place_is_not_call_number_steps ≡ 14
+unfolding strays_from effect replica_after replica_reply statements_to_end all_zero
+some-strays = refl
+
+-- a kill of the fates waits for no time, and a repeat follows its delivery
+kill-at-once : killed_instead (turn.Past (Act 2) 70) true ≡ turn.Step (Kill 2)
+kill-at-once = refl
+
+repeated : driver_steps (turn.Step (Go 5)) true fate.Again true ≡ Go 5 ∷ Again 5 ∷ []
+repeated = refl
+
+no-room-for-two : driver_steps (turn.Step (Go 5)) false fate.Lose true ≡ Go 5 ∷ []
+no-room-for-two = refl
+
+-- the generated file
+addend-500 : generated_addend 500 ≡ 958
+addend-500 = refl
+
+addend-1 : generated_addend 1 ≡ 591
+addend-1 = refl
+
+generated-length : length (generated_file 1) ≡ 451
+unfolding digits
+generated-length = refl

@@ -3,10 +3,14 @@
 
 mod ending;
 mod place;
+mod session;
 mod state;
 mod step;
+mod turn;
 
 pub use ending::{Ending, StageState};
 pub use place::{KeyedCall, PlaceKey, PlacePart, Placed};
-pub use state::{Call, Life, Mark, Stage};
+pub use session::{OwnerKind, Session};
+pub use state::{Dates, Life, Mark, OwnerFate};
 pub use step::{Logged, Step, StepKind, StepRefusal};
+pub use turn::{Enabling, Fate, Turn};

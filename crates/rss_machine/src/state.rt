@@ -2,7 +2,7 @@
 
 use carstamps::Carstamp;
 use rss_model::How;
-use rss_names::Key;
+use rss_names::Target;
 
 /// The life of a stage.
 #[derive(Clone, Copy, Debug, PartialEq, Eq)]
@@ -13,33 +13,32 @@ pub enum Life {
     Over(How),
 }
 
-/// A stage.
+/// How an owner stands: a call, a fence statement, or a stub.
 #[derive(Clone, Copy, Debug, PartialEq, Eq)]
-pub struct Stage {
-    pub life: Life,
-    /// The number of statements that the stage has begun.
-    pub position: usize,
-    /// The number of the call that the stage waits for.
-    pub call: Option<u32>,
+pub enum OwnerFate {
+    Running,
+    /// A call that replied, a fence statement or a stub whose works are done.
+    Ended,
+    /// Its stage was killed.
+    Dropped,
+    /// This target was cut off from it, and with it a shard or a quorum.
+    CutOff(Target),
 }
 
-/// What the machine notes of a call besides its session. Calls are numbered from 1 in the order in
-/// which they begin.
+/// The steps in which an owner began, entered its service, sent its own first round and ended; 0
+/// where it has not.
 #[derive(Clone, Copy, Debug, PartialEq, Eq)]
-pub struct Call {
-    /// The number of the step that sent the call's own first round.
-    pub round_step: u32,
-    /// Whether some replica has handled the call's `Store`.
-    pub stored: bool,
-    /// The current exchange with each replica: its reply is awaited, and no other is heard.
-    pub currents: [Option<u32>; 7],
+pub struct Dates {
+    pub begun: u32,
+    pub entered: u32,
+    pub launched: u32,
+    pub ended: u32,
 }
 
-/// A majority of replicas has held this stamp, or a greater one, on this register from this step on
-/// and not before.
+/// A majority of a register's replicas has held this stamp, or a greater one, from this step on and
+/// not before.
 #[derive(Clone, Copy, Debug, PartialEq, Eq)]
 pub struct Mark {
-    pub key: Key,
     pub stamp: Carstamp,
     pub step: u32,
 }

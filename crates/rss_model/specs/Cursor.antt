@@ -1,5 +1,5 @@
 -- Where a script stands, and what the statements do that concern the script alone.
-use Rattle.std.specs.Prelude.{ℕ, zero, suc, ◌+◌, ◌-◌, Bool, true, false, List, [], ◌∷◌, get_or, set, drop, nat_lt, if◌then◌else◌}
+use Rattle.std.specs.Prelude.{ℕ, zero, suc, ◌+◌, ◌-◌, Bool, true, false, List, [], ◌∷◌, set, drop, nat_lt, if◌then◌else◌}
 use Rattle.rss_names.specs.declared.service.Key.{Key}
 use Rattle.pipeline_lang.specs.declared.script.Statement.{Statement}
 use Rattle.pipeline_lang.specs.declared.script.Statement.TheVariants.{Let, Read, Write, Snap, Txn, Spawn, Wait, Put, Take, Close, Fence, Repeat, When, End, Exit}
@@ -19,10 +19,6 @@ pub record Cursor : Type 0 where
   pub position : ℕ
   pub blocks : List Block
   pub variables : List ℕ
-
--- the statement at a position, counted from 0; the end of the script is an exit
-abbrev pub statement_at : List NumberedStatement → ℕ → NumberedStatement
-statement_at script i = get_or script i Exit
 
 -- on to the next statement
 abbrev pub next_cursor : Cursor → Cursor

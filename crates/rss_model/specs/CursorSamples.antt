@@ -1,16 +1,16 @@
 -- Samples of scripts that make no call: how their blocks run.
-use Rattle.std.specs.Prelude.{◌≡◌, ℕ, zero, suc, List, [], ◌∷◌, replicate, slice_index, refl}
+use Rattle.std.specs.Prelude.{◌≡◌, ℕ, zero, suc, List, [], ◌∷◌, get_or, replicate, slice_index, refl}
 use Rattle.pipeline_lang.specs.declared.script.Term.TheVariants.{Number, Variable}
 use Rattle.pipeline_lang.specs.declared.script.Expr.TheVariants.{One, Plus}
 use Rattle.pipeline_lang.specs.declared.script.Compare.TheVariants.{Equal}
-use Rattle.pipeline_lang.specs.declared.script.Statement.TheVariants.{Let, Repeat, When, End}
-use Rattle.rss_model.specs.Cursor.{NumberedStatement, Cursor, statement_at, after_local, statements_to_end}
+use Rattle.pipeline_lang.specs.declared.script.Statement.TheVariants.{Let, Repeat, When, End, Exit}
+use Rattle.rss_model.specs.Cursor.{NumberedStatement, Cursor, after_local, statements_to_end}
 
 -- where a script of local statements stands after so many of them
 abbrev after_locals : List NumberedStatement → Cursor → ℕ → Cursor
 after_locals script at zero = at
 after_locals script at (suc n) =
-    after_locals script (after_local script at (statement_at script at.position)) n
+    after_locals script (after_local script at (get_or script at.position Exit)) n
 
 abbrev beginning : Cursor
 beginning = record { position = 0; blocks = []; variables = replicate 3 0 }

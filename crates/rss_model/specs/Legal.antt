@@ -1,10 +1,11 @@
 -- A legal order of calls: each call is shown what the calls before it have written.
 use Rattle.std.specs.Prelude.{◌≡◌, ℕ, zero, suc, List, [], ◌∷◌, map, get_or, if◌then◌else◌, IsTrue, IsFalse}
 use Rattle.rss_names.specs.declared.service.Key.{Key}
+use Rattle.rss_names.specs.Services.{same_key}
 use Rattle.rss_model.specs.declared.op.Op.{Op}
 use Rattle.rss_model.specs.declared.op.Shown.{Shown}
 use Rattle.rss_model.specs.declared.history.Entry.{Entry}
-use Rattle.rss_model.specs.Operation.{same_key, reads_of, written_by, guard_holds, values_of}
+use Rattle.rss_model.specs.Operation.{reads_of, written_by, guard_holds, values_of}
 use Rattle.rss_model.specs.History.{has_begun, has_ended, op_of, reply_of}
 use Rattle.rss_model.specs.Mutation.{is_mutation}
 use Rattle.rss_model.specs.Candidate.{StandsAt}

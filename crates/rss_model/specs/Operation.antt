@@ -1,23 +1,10 @@
 -- What an operation reads and writes.
-use Rattle.std.specs.Prelude.{ℕ, ◌==◌, ◌&&◌, Bool, true, false, List, [], ◌∷◌, map, Some, None}
+use Rattle.std.specs.Prelude.{ℕ, Bool, true, false, List, [], ◌∷◌, map, Some, None}
 use Rattle.rss_names.specs.declared.service.Key.{Key}
-use Rattle.rss_names.specs.declared.service.ServiceId.{ServiceId}
-use Rattle.rss_names.specs.declared.service.ServiceId.TheVariants as service
 use Rattle.rss_model.specs.declared.op.Op.{Op}
 use Rattle.rss_model.specs.declared.op.Op.TheVariants.{Read, Write, Snap, Txn}
 use Rattle.rss_model.specs.declared.op.Shown.{Shown}
 use Rattle.rss_model.specs.Formula.{formula_value, guard_value}
-
--- whether two services are one
-abbrev pub same_service : ServiceId → ServiceId → Bool
-same_service (service.Txn a) (service.Txn b) = a == b
-same_service (service.Reg a) (service.Reg b) = a == b
-same_service (service.Txn a) (service.Reg b) = false
-same_service (service.Reg a) (service.Txn b) = false
-
--- whether two keys are one
-abbrev pub same_key : Key → Key → Bool
-same_key a b = same_service a.service b.service && a.index == b.index
 
 -- the keys that an operation reads, in its order
 abbrev pub reads_of : Op → List Key

@@ -2,12 +2,13 @@
 use Rattle.std.specs.Prelude.{◌≡◌, ℕ, ◌+◌, ◌==◌, ◌&&◌, Bool, true, false, not, List, [], ◌∷◌, ◌++◌, get_or, set, replicate, if◌then◌else◌}
 use Rattle.pipeline_lang.specs.declared.config.Config.{Config}
 use Rattle.pipeline_lang.specs.declared.config.PipeEnds.{PipeEnds}
+use Rattle.pipeline_lang.specs.Config.{statement_at}
 use Rattle.rss_model.specs.declared.history.Token.{Token}
 use Rattle.rss_model.specs.declared.history.Token.TheVariants as token
 use Rattle.rss_model.specs.declared.history.How.{How}
-use Rattle.rss_model.specs.Cursor.{NumberedStatement, Cursor, statement_at, next_cursor, with_variable}
+use Rattle.rss_model.specs.Cursor.{NumberedStatement, Cursor, next_cursor, with_variable}
 use Rattle.rss_model.specs.CallStatement.{after_call}
-use Rattle.rss_model.specs.Scripts.{script_of, is_spawned}
+use Rattle.rss_model.specs.Scripts.{is_spawned}
 
 -- a stage is not spawned yet, between statements, in a call, or over with this still to give
 pub data Mode : Type 0 where
@@ -52,7 +53,7 @@ first_walk config stage = record {
 -- this statement comes next
 pub record IsNext (config : Config) (stage : ℕ) (w : Walk) (s : NumberedStatement) : Type 0 where
   pub ready : w.mode ≡ ready
-  pub statement : statement_at (script_of config stage) w.cursor.position ≡ s
+  pub statement : statement_at config stage w.cursor.position ≡ s
 
 -- the number of the next chunk or end mark that the stage gives to a pipe
 abbrev pub next_given : Walk → ℕ → ℕ
@@ -80,7 +81,7 @@ after_close w pipe = record w {
 -- behind a call that was shown these values
 abbrev pub after_reply : Config → ℕ → Walk → List ℕ → Walk
 after_reply config stage w values = record w {
-  cursor = after_call w.cursor (statement_at (script_of config stage) w.cursor.position) values;
+  cursor = after_call w.cursor (statement_at config stage w.cursor.position) values;
   mode = ready;
 }
 

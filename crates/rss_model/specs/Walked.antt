@@ -3,6 +3,7 @@ use Rattle.std.specs.Prelude.{◌≡◌, ℕ, suc, ◌+◌, ◌<◌, ◌==◌, L
 use Rattle.pipeline_lang.specs.declared.config.Config.{Config}
 use Rattle.pipeline_lang.specs.declared.script.Expr.{Expr}
 use Rattle.pipeline_lang.specs.declared.script.Statement.TheVariants as statement
+use Rattle.pipeline_lang.specs.Config.{script_of}
 use Rattle.rss_model.specs.declared.op.Op.{Op}
 use Rattle.rss_model.specs.declared.op.Shown.{Shown}
 use Rattle.rss_model.specs.declared.history.Entry.{Entry}
@@ -16,7 +17,7 @@ use Rattle.rss_model.specs.History.{entry_at}
 use Rattle.rss_model.specs.Stages.{stage_at, is_death, wait_status}
 use Rattle.rss_model.specs.Cursor.{NumberedStatement, is_local, after_local}
 use Rattle.rss_model.specs.CallStatement.{op_of_statement}
-use Rattle.rss_model.specs.Scripts.{script_of, giver_of}
+use Rattle.rss_model.specs.Scripts.{giver_of}
 use Rattle.rss_model.specs.Walk.{unborn, ready, in_call, over, Walk, is_alive, first_walk, IsNext, next_given}
 use Rattle.rss_model.specs.Walk.{past_statement, after_put, after_close, after_reply, after_wait, after_take, after_chunk, over_as}
 use Rattle.rss_model.specs.Given.{GivenAbove, DiedUnfenced, IsCutOff, Puts, Marks}

@@ -4,11 +4,17 @@
 mod attempt;
 mod ids;
 mod name;
+mod same;
+mod search;
 mod seq;
 mod service;
+mod steps;
 
 pub use attempt::Attempt;
 pub use ids::{CallId, ReplicaId, ShardId, StageId};
 pub use name::{BadName, Name};
+pub use same::{is_attempt_before, is_same_attempt, is_same_key, is_younger_attempt};
+pub use search::{Times1, last_at_most};
 pub use seq::Seq;
 pub use service::{Key, ServiceId, Target};
+pub use steps::Steps;

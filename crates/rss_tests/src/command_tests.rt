@@ -1,13 +1,8 @@
 //! The top call over inputs in memory, byte for byte.
 
-use rss_cli::{Status, top};
-use rss_io::{MemSink, MemSource};
-use std::alloc::{AllocError, Global};
+use crate::commands::{FORM, replay, run};
+use rss_cli::Status;
 use std::test::Fail;
-
-/// A stage writes 5 to a register and reads it back.
-const FORM: &str =
-    "registers = [\"r\"]\n[[stage]]\nname = \"a\"\nscript = '''\nwrite r 5\nread v r\n'''\n";
 
 /// All messages of both calls delivered, in the order sent.
 const WHOLE: &str =
@@ -15,42 +10,6 @@ const WHOLE: &str =
 
 const REPORT: &str =
     "call 1 a write r 5 ok place 1\ncall 2 a read r = 5 by 1 ok place 2\nstage a exited\nending done\n";
-
-/// What a command left: its exit code, and the bytes written.
-#[derive(Drop)]
-struct Left {
-    code: u8,
-    text: Vec<u8>,
-}
-
-// The command over a source and a sink whose calls of these numbers fail; the sink takes at most
-// eight bytes a call.
-fn run(
-    alloc: Global,
-    words: &[String],
-    input: &str,
-    source_fails: &[u32],
-    sink_fails: &[u32],
-) -> Result<Left, AllocError> {
-    let mut source = MemSource::new(alloc, input.as_bytes(), 4096, source_fails)?;
-    let mut sink = MemSink::new(alloc, 8, sink_fails)?;
-    let status = top(alloc, words, &mut source, &mut sink);
-    let text = Vec::from_slice(alloc, sink.bytes())?;
-    Ok(Left {
-        code: status.code(),
-        text,
-    })
-}
-
-fn replay(
-    alloc: Global,
-    input: &str,
-    source_fails: &[u32],
-    sink_fails: &[u32],
-) -> Result<Left, AllocError> {
-    let words = [String::from_str(alloc, "replay")?];
-    run(alloc, &words, input, source_fails, sink_fails)
-}
 
 #[test]
 fn smallest_run_is_reported(rt: HostRuntime) -> Result<(), Fail> {
@@ -111,7 +70,7 @@ fn stage_that_exited_acts_no_more(rt: HostRuntime) -> Result<(), Fail> {
 }
 
 #[test]
-fn faults_of_source_sink_words_and_file(rt: HostRuntime) -> Result<(), Fail> {
+fn faults_of_source_sink_and_words(rt: HostRuntime) -> Result<(), Fail> {
     let alloc = rt.alloc();
     let input = format!(in alloc; "{FORM}%steps\n{WHOLE}")?;
     let unread = replay(alloc, input.as_str(), &[1], &[])?;
@@ -120,12 +79,6 @@ fn faults_of_source_sink_words_and_file(rt: HostRuntime) -> Result<(), Fail> {
     let unwritten = replay(alloc, input.as_str(), &[], &[2])?;
     assert_eq!(rt; unwritten.code, 7);
     assert_eq!(rt; unwritten.text.as_slice(), b"call 1 a".as_slice());
-    let other = replay(alloc, "registers = []\n", &[], &[])?;
-    assert_eq!(rt; other.code, 2);
-    assert_eq!(rt;
-        other.text.as_slice(),
-        b"fault file NotBuilt file\n".as_slice()
-    );
     let words = [String::from_str(alloc, "play")?];
     let usage = run(alloc, &words, input.as_str(), &[], &[])?;
     assert_eq!(rt; usage.code, 2);

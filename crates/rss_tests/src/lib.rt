@@ -6,4 +6,8 @@ mod byte_tests;
 #[cfg(test)]
 mod command_tests;
 #[cfg(test)]
+mod commands;
+#[cfg(test)]
+mod file_tests;
+#[cfg(test)]
 mod world_tests;

@@ -10,8 +10,8 @@ use Rattle.std.specs.Ordering.{MatchOrdering, is_lt}
 use Rattle.std.proofs.lemmas.List.Elements.{All-get_or}
 use Rattle.std.proofs.lemmas.List.Sorted.{All-permutation, ranks_by, sorted_far}
 use Rattle.std.proofs.lemmas.Map.Keys.{IsDistinct-IsPermutation, apart_from_distinct}
-use Rattle.rss_machine.specs.State.{State}
-use Rattle.rss_machine.specs.Places.{IsKeyBelow, keyed_calls, keyed_at, numbered, ArePlaces}
+use Rattle.first_machine.specs.State.{State}
+use Rattle.first_machine.specs.Places.{IsKeyBelow, keyed_calls, keyed_at, numbered, ArePlaces}
 use Rattle.rss_machine.specs.contracts.place.PlaceKeyOrd.TheImpl.Laws.{total-law}
 use Rattle.rss_machine.specs.declared.place.KeyedCall.{KeyedCall}
 use Rattle.rss_machine.specs.declared.place.PlaceKey.{PlaceKey}

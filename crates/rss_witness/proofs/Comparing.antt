@@ -7,7 +7,7 @@ use Rattle.std.specs.Ordering.{MatchOrdering, nat_cmp, bool_cmp, ordering_then}
 use Rattle.carstamps.specs.Stamp.{IsBelow}
 use Rattle.carstamps.specs.declared.carstamp.Carstamp.{Carstamp}
 use Rattle.carstamps.specs.contracts.carstamp.CarstampOrd.TheImpl as stamps
-use Rattle.rss_machine.specs.Places.{IsKeyBelow, IsPartBelow}
+use Rattle.first_machine.specs.Places.{IsKeyBelow, IsPartBelow}
 use Rattle.rss_machine.specs.declared.place.PlaceKey.{PlaceKey}
 use Rattle.rss_machine.specs.declared.place.PlacePart.{PlacePart}
 use Rattle.rss_machine.specs.declared.place.PlacePart.TheVariants.{Txn, Register}

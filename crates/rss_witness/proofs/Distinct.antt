@@ -6,8 +6,8 @@ use Rattle.std.proofs.lemmas.Bool.{ne_eqb}
 use Rattle.std.proofs.lemmas.List.Elements.{All-nil, All-cons}
 use Rattle.rss_names.specs.declared.service.Key.{Key}
 use Rattle.carstamps.specs.declared.carstamp.Carstamp.{Carstamp}
-use Rattle.rss_machine.specs.State.{State}
-use Rattle.rss_machine.specs.Places.{keyed_from, keyed_before, stamp_of}
+use Rattle.first_machine.specs.State.{State}
+use Rattle.first_machine.specs.Places.{keyed_from, keyed_before, stamp_of}
 use Rattle.rss_machine.specs.declared.place.KeyedCall.{KeyedCall}
 use Rattle.rss_machine.specs.declared.place.PlacePart.{PlacePart}
 use Rattle.rss_machine.specs.declared.place.PlacePart.TheVariants.{Txn, Register}

@@ -2,9 +2,9 @@
 
 ghost use Rattle.std.specs.Prelude.{◌≡◌, ◌<◌, ◌^◌, [], length, IfOk};
 ghost use Rattle.std.specs.Option.{option_to_list};
-ghost use Rattle.rss_machine.specs.Places.{place_key as key_in, keyed_calls as keyed_in, keyed_before, stamp_of, effect_step as effect_at, is_read};
-ghost use Rattle.rss_machine.specs.State.{call_at, session_at};
-ghost use Rattle.rss_machine.specs.StepOfStamp.{marked_step};
+ghost use Rattle.first_machine.specs.Places.{place_key as key_in, keyed_calls as keyed_in, keyed_before, stamp_of, effect_step as effect_at, is_read};
+ghost use Rattle.first_machine.specs.State.{call_at, session_at};
+ghost use Rattle.first_machine.specs.StepOfStamp.{marked_step};
 
 use carstamps::Carstamp;
 use event_world::World;

@@ -2,7 +2,7 @@
 
 ghost use Rattle.std.specs.Prelude.{IfOk};
 ghost use Rattle.std.specs.List.Sorted.{IsPermutation, IsSortedByKey};
-ghost use Rattle.rss_machine.specs.Places.{ArePlaces};
+ghost use Rattle.first_machine.specs.Places.{ArePlaces};
 ghost use Rattle.rss_witness.specs.Order.{key_of, key_order};
 
 use crate::keys::keyed_calls;

@@ -1,22 +1,22 @@
 -- What is read as the line of a step is its spelling.
-use Rattle.std.proofs.Common.{◌≡◌, ℕ, ◌-◌, ◌^◌, ◌≤◌, ◌<◌, nat_le, cond, List, ◌++◌, length, Result, Ok, Err, ap, ◌∙◌, inl, inr, arith, subst}
+use Rattle.std.proofs.Common.{◌≡◌, ℕ, ◌-◌, ◌^◌, ◌≤◌, ◌<◌, nat_le, cond, List, ◌++◌, length, Result, Ok, Err, ap, ◌∙◌, arith, subst}
 use Rattle.std.specs.Prelude.{codes}
 use Rattle.std.specs.Fmt.{decimal}
 use Rattle.std.proofs.lemmas.Bool.{leb-true}
 use Rattle.truetime.specs.Reading.{Reading, IsReading}
 use Rattle.rss_machine.specs.declared.step.Step.{Step}
 use Rattle.rss_machine.specs.declared.step.StepKind.{StepKind}
-use Rattle.rss_machine.specs.declared.step.StepKind.TheVariants.{Act, Go}
+use Rattle.rss_machine.specs.declared.step.StepKind.TheVariants.{Act, Go, Lose, Again, Kill, Stub}
 use Rattle.step_text.specs.Reading.{◌>>=◌, after_word}
 use Rattle.step_text.specs.Numbers.{number_at}
-use Rattle.step_text.specs.Lines.{act_at, go_at, kind_at, clock_at, step_at}
+use Rattle.step_text.specs.Lines.{stage_at, message_at, act_at, go_at, lose_at, again_at, kill_at, stub_at, kind_at, clock_at, step_at}
 use Rattle.step_text.specs.Spelling.{kind_text, clock_text, line_of, IsKind, IsStep}
-use Rattle.step_text.proofs.Parts.{bind_ok, cond_ok, ok_pair, furthest_ok, joined}
+use Rattle.step_text.proofs.Parts.{bind_ok, cond_ok, ok_pair, one_of, joined}
 use Rattle.step_text.proofs.NumberLaws.{word_spelled, number_spelled}
 
 -- a word and a number are read as a kind
 abbrev pub numbered_at : List ℕ → ℕ → (ℕ → StepKind) → List ℕ → Result (StepKind × List ℕ) ℕ
-numbered_at word most make bytes = after_word word bytes >>= λ rest. number_at 1 most rest >>= λ n. Ok (make n.0, n.1)
+numbered_at word most make bytes = (after_word word bytes >>= λ rest. number_at 1 most rest) >>= λ n. Ok (make n.0, n.1)
 
 -- the number of a kind that was read, and the text of both
 pub record Numbered (word : List ℕ) (most : ℕ) (make : ℕ → StepKind) (kind : StepKind) (bytes rest : List ℕ) : Type 0 where
@@ -28,10 +28,10 @@ pub record Numbered (word : List ℕ) (most : ℕ) (make : ℕ → StepKind) (ki
 
 numbered_spelled : (word : List ℕ) (most : ℕ) (make : ℕ → StepKind) (kind : StepKind) (bytes rest : List ℕ) → 9 ≤ most → most < 2 ^ 64 → numbered_at word most make bytes ≡ Ok (kind, rest) → Numbered word most make kind bytes rest
 numbered_spelled word most make kind bytes rest wide fits e =
-    let a = bind_ok (after_word word bytes) (λ (r : List ℕ). number_at 1 most r >>= λ n. Ok (make n.0, n.1)) (kind, rest) e in
-    let b = bind_ok (number_at 1 most a.0) (λ (n : ℕ × List ℕ). Ok (make n.0, n.1)) (kind, rest) a.2 in
+    let b = bind_ok (after_word word bytes >>= λ r. number_at 1 most r) (λ (n : ℕ × List ℕ). Ok (make n.0, n.1)) (kind, rest) e in
+    let a = bind_ok (after_word word bytes) (λ (r : List ℕ). number_at 1 most r) b.0 b.1 in
     let p = ok_pair (make b.0.0) kind b.0.1 rest b.2 in
-    let n = number_spelled 1 most b.0.0 a.0 b.0.1 wide fits b.1 in
+    let n = number_spelled 1 most b.0.0 a.0 b.0.1 wide fits a.2 in
     record {
       number = b.0.0;
       is = p.0;
@@ -46,24 +46,54 @@ pub record KindSpells (kind : StepKind) (bytes rest : List ℕ) : Type 0 where
   pub range : IsKind kind
 
 act_spelled : (kind : StepKind) (bytes rest : List ℕ) → act_at bytes ≡ Ok (kind, rest) → KindSpells kind bytes rest
-unfolding act_at kind_text IsKind
+unfolding act_at stage_at kind_text IsKind
 act_spelled kind bytes rest e =
     let n = numbered_spelled (codes "act ") 16 Act kind bytes rest (omega arith) (omega arith) e in
     subst (λ (k : StepKind). KindSpells k bytes rest) n.is (record { text = n.text; range = (n.low, n.high) })
 
 go_spelled : (kind : StepKind) (bytes rest : List ℕ) → go_at bytes ≡ Ok (kind, rest) → KindSpells kind bytes rest
-unfolding go_at kind_text IsKind
+unfolding go_at message_at kind_text IsKind
 go_spelled kind bytes rest e =
     let n = numbered_spelled (codes "go ") (2 ^ 32 - 1) Go kind bytes rest (omega arith) (omega arith) e in
     subst (λ (k : StepKind). KindSpells k bytes rest) n.is (record { text = n.text; range = (n.low, omega (arith, n.high)) })
 
+lose_spelled : (kind : StepKind) (bytes rest : List ℕ) → lose_at bytes ≡ Ok (kind, rest) → KindSpells kind bytes rest
+unfolding lose_at message_at kind_text IsKind
+lose_spelled kind bytes rest e =
+    let n = numbered_spelled (codes "lose ") (2 ^ 32 - 1) Lose kind bytes rest (omega arith) (omega arith) e in
+    subst (λ (k : StepKind). KindSpells k bytes rest) n.is (record { text = n.text; range = (n.low, omega (arith, n.high)) })
+
+again_spelled : (kind : StepKind) (bytes rest : List ℕ) → again_at bytes ≡ Ok (kind, rest) → KindSpells kind bytes rest
+unfolding again_at message_at kind_text IsKind
+again_spelled kind bytes rest e =
+    let n = numbered_spelled (codes "again ") (2 ^ 32 - 1) Again kind bytes rest (omega arith) (omega arith) e in
+    subst (λ (k : StepKind). KindSpells k bytes rest) n.is (record { text = n.text; range = (n.low, omega (arith, n.high)) })
+
+kill_spelled : (kind : StepKind) (bytes rest : List ℕ) → kill_at bytes ≡ Ok (kind, rest) → KindSpells kind bytes rest
+unfolding kill_at stage_at kind_text IsKind
+kill_spelled kind bytes rest e =
+    let n = numbered_spelled (codes "kill ") 16 Kill kind bytes rest (omega arith) (omega arith) e in
+    subst (λ (k : StepKind). KindSpells k bytes rest) n.is (record { text = n.text; range = (n.low, n.high) })
+
+stub_spelled : (kind : StepKind) (bytes rest : List ℕ) → stub_at bytes ≡ Ok (kind, rest) → KindSpells kind bytes rest
+unfolding stub_at stage_at kind_text IsKind
+stub_spelled kind bytes rest e =
+    let n = numbered_spelled (codes "stub ") 16 Stub kind bytes rest (omega arith) (omega arith) e in
+    subst (λ (k : StepKind). KindSpells k bytes rest) n.is (record { text = n.text; range = (n.low, n.high) })
+
 kind_spelled : (kind : StepKind) (bytes rest : List ℕ) → kind_at bytes ≡ Ok (kind, rest) → KindSpells kind bytes rest
 unfolding kind_at
 kind_spelled kind bytes rest e =
-    elim (furthest_ok (act_at bytes) (go_at bytes) (kind, rest) e) [
-      | inl f ↦ act_spelled kind bytes rest f
-      | inr f ↦ go_spelled kind bytes rest f
-    ]
+    one_of _ (stub_at bytes) (kind, rest)
+    (one_of _ (kill_at bytes) (kind, rest)
+    (one_of _ (again_at bytes) (kind, rest)
+    (one_of _ (lose_at bytes) (kind, rest)
+    (one_of (act_at bytes) (go_at bytes) (kind, rest) (act_spelled kind bytes rest) (go_spelled kind bytes rest))
+    (lose_spelled kind bytes rest))
+    (again_spelled kind bytes rest))
+    (kill_spelled kind bytes rest))
+    (stub_spelled kind bytes rest)
+    e
 
 -- the text of a reading that was read
 pub record ClockSpells (at : Reading) (bytes rest : List ℕ) : Type 0 where

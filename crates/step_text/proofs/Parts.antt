@@ -18,6 +18,14 @@ furthest_ok (Ok x) b y e = inl e
 furthest_ok (Err left) (Ok x) y e = inr e
 furthest_ok (Err left) (Err other) y e = absurd cc
 
+-- what follows from either of two readings follows from the one that did not fail
+pub one_of : {A P : Type 0} (a b : Result A ℕ) (y : A) → (a ≡ Ok y → P) → (b ≡ Ok y → P) → furthest a b ≡ Ok y → P
+one_of a b y f g e =
+    elim (furthest_ok a b y e) [
+      | inl p ↦ f p
+      | inr p ↦ g p
+    ]
+
 abbrev done : {A : Type 0} → A → Result A ℕ
 done x = Ok x
 

@@ -2,7 +2,7 @@
 use Rattle.std.proofs.Common.{◌≡◌, ℕ, suc, ◌<◌, List, ◌∷◌, [], Result, Ok, Err, refl, sym, ap, ◌∙◌, All, length, arith, subst}
 use Rattle.rss_machine.specs.declared.step.Step.{Step}
 use Rattle.step_text.specs.Reading.{after_word}
-use Rattle.step_text.specs.Lines.{act_at, go_at, kind_at, step_at}
+use Rattle.step_text.specs.Lines.{stage_at, message_at, act_at, go_at, lose_at, again_at, kill_at, stub_at, kind_at, step_at}
 use Rattle.step_text.specs.Spelling.{text_of, IsStep}
 use Rattle.step_text.specs.Texts.{Reads}
 use Rattle.step_text.proofs.LinesAgain.{step_again}
@@ -29,7 +29,7 @@ no_both r left x e f = cc
 
 -- no line is empty
 no_line : (bytes : List ℕ) (x : Step × List ℕ) → bytes ≡ [] → step_at bytes ≡ Ok x → ⊥
-unfolding step_at kind_at act_at go_at after_word
+unfolding step_at kind_at act_at go_at lose_at again_at kill_at stub_at stage_at message_at after_word
 no_line [] x e f = cc
 no_line (b ∷ bs) x e f = cc
 

@@ -1,5 +1,6 @@
 -- The step text: the one spelling of each list of steps.
--- Each line is `act S E L` or `go M E L` and a newline, with single spaces. S is a stage, from 1 to 16, and M a message, from 1 to 2^32 - 1.
+-- Each line is `act S E L`, `go M E L`, `lose M E L`, `again M E L`, `kill S E L` or `stub S E L` and a newline, with single spaces.
+-- S is a stage, from 1 to 16, and M a message, from 1 to 2^32 - 1.
 -- E and L are the two ends of a reading: E is at most L, and L is below 2^62. All numbers are decimal without leading zeros.
 use Rattle.std.specs.Prelude.{ℕ, ◌≤◌, ◌<◌, ◌^◌, List, [], ◌∷◌, ◌++◌, codes}
 use Rattle.std.specs.Fmt.{decimal}
@@ -30,15 +31,14 @@ abbrev pub text_of : List Step → List ℕ
 text_of [] = []
 text_of (step ∷ steps) = line_of step ++ text_of steps
 
--- a kind of which lines can be read, with its number in range: stages from 1 to 16, messages from 1 on.
--- Lines of the other kinds are off the grammar
+-- a kind whose number is in range: stages from 1 to 16, messages from 1 on
 unfoldable pub IsKind : StepKind → Type 0
 IsKind (Act stage) = (1 ≤ stage) × (stage ≤ 16)
 IsKind (Go message) = (1 ≤ message) × (message < 2 ^ 32)
-IsKind (Lose message) = ⊥
-IsKind (Again message) = ⊥
-IsKind (Kill stage) = ⊥
-IsKind (Stub stage) = ⊥
+IsKind (Lose message) = (1 ≤ message) × (message < 2 ^ 32)
+IsKind (Again message) = (1 ≤ message) × (message < 2 ^ 32)
+IsKind (Kill stage) = (1 ≤ stage) × (stage ≤ 16)
+IsKind (Stub stage) = (1 ≤ stage) × (stage ≤ 16)
 
 -- a step whose line is on the grammar
 pub record IsStep (step : Step) : Type 0 where

@@ -2,6 +2,7 @@
 #![tactic(auto)]
 
 mod error;
+mod kind;
 mod line;
 mod number;
 mod print;

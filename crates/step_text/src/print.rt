@@ -58,8 +58,7 @@ fn put_step(alloc: Global, text: &mut Vec<u8>, step: Step) -> Result<(), AllocEr
 }
 
 /// The step text of a log: the lines of its steps, one behind another, without their drivers.
-/// `read_steps` reads it back as these steps where all of them are of kinds that it reads and the
-/// numbers of messages are positive.
+/// `read_steps` reads it back as these steps where the numbers of their messages are positive.
 pub fn print_steps(alloc: Global, log: &[Logged]) -> Result<Vec<u8>, AllocError>
     ensures { IfOk result (λ text. text.items ≡ text_of (steps_of log.now)) }
 {

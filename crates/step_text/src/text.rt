@@ -11,11 +11,11 @@ use crate::line::step_of;
 use rss_machine::Step;
 use std::alloc::Global;
 
-/// The steps of a text. Each line is `act S E L` or `go M E L` and a newline, with single spaces: S is
-/// a stage, from 1 to 16, M a message, from 1 on, and E and L are the earliest and the latest of the
-/// reading, with E at most L and L below 2^62. Numbers are decimal without leading zeros. `BadStep`
-/// names the first line that is off this grammar; of the lines behind it nothing is read. The text is
-/// shorter than 2^32 bytes.
+/// The steps of a text. Each line is `act S E L`, `go M E L`, `lose M E L`, `again M E L`,
+/// `kill S E L` or `stub S E L` and a newline, with single spaces: S is a stage, from 1 to 16, M a
+/// message, from 1 on, and E and L are the earliest and the latest of the reading, with E at most L
+/// and L below 2^62. Numbers are decimal without leading zeros. `BadStep` names the first line that
+/// is off this grammar; of the lines behind it nothing is read. The text is shorter than 2^32 bytes.
 pub fn read_steps(alloc: Global, bytes: &[u8]) -> Result<Vec<Step>, StepTextError>
     requires { length bytes.now < 2 ^ 32 }
     ensures read { IfOk result (λ steps. Reads bytes.now steps.items []) }

@@ -33,3 +33,7 @@ none_is_not a e = cc
 
 pub some_is_not : {A : Type 0} (a : A) → Some a ≡ None → ⊥
 some_is_not a e = cc
+
+-- past the end
+pub get_or_past : {X : Type 0} (xs : List X) (i : ℕ) (d : X) → (i < length xs) ⊎ (get_or xs i d ≡ d)
+get_or_past xs i d = grind (arith, common_steps)

@@ -11,7 +11,7 @@ use Rattle.rss_machine.specs.Run.{run, run_from, unless_refused, steps_of}
 use Rattle.rss_machine.specs.declared.step.Logged.{Logged}
 use Rattle.rss_machine.specs.declared.step.Step.{Step}
 use Rattle.rss_machine.specs.declared.step.StepRefusal.{StepRefusal}
-use Rattle.rss_machine.specs.declared.step.StepRefusal.TheVariants.{LogFull, Reading}
+use Rattle.rss_machine.specs.declared.step.StepRefusal.TheVariants.{LogFull, Reading as Untimely}
 use Rattle.world_laws.proofs.Looks.{some_is, none_is_not, some_is_not}
 
 -- what follows a step that was not refused
@@ -55,14 +55,14 @@ run_more c steps s next e r = run_from_more c steps (start c) s next e r
 pub record Passes (c : Config) (s : State) (step : Step) : Type 0 where
   pub room : s.steps < c.max_steps
   pub admitted : admits s.moment step.at ≡ true
-  pub kind : kind_refusal c s step.kind ≡ None
+  pub kind : kind_refusal c s step.at step.kind ≡ None
 
 -- a step that is not refused passes
 pub passes : (c : Config) (s : State) (step : Step) → refusal c s step ≡ None → Passes c s step
 unfolding refusal
 passes c s step = by_room (nat_le c.max_steps s.steps) (admits s.moment step.at) refl refl
   where
-    by_room : (full admitted : Bool) → nat_le c.max_steps s.steps ≡ full → admits s.moment step.at ≡ admitted → (if full then Some LogFull else (if admitted then kind_refusal c s step.kind else Some (Reading record { greatest_earliest = s.moment; latest = step.at.latest }))) ≡ None → Passes c s step
+    by_room : (full admitted : Bool) → nat_le c.max_steps s.steps ≡ full → admits s.moment step.at ≡ admitted → (if full then Some LogFull else (if admitted then kind_refusal c s step.at step.kind else Some (Untimely record { greatest_earliest = s.moment; latest = step.at.latest }))) ≡ None → Passes c s step
     by_room true admitted f a e = absurd (some_is_not _ e)
     by_room false true f a e = record { room = leb-false c.max_steps s.steps f; admitted = a; kind = e }
     by_room false false f a e = absurd (some_is_not _ e)

@@ -1,4 +1,4 @@
-pub mod Shape
-pub mod Registers
-pub mod Holders
+pub mod Later
+pub mod Exchanges
+pub mod Proper
 pub mod Laws

@@ -1,6 +1,6 @@
 //! The laws of runs. They hold no code: each is the contract of a function that does nothing.
 
-ghost use Rattle.world_laws.specs.Laws.{RunsGoOn, RunsAreCounted, LogsGrow, RunsHaveShape, ReadingsAreConsistent, MomentsAreTrue, StampsNeverFall, MajoritiesMeet, HeldUpToTheGreatest, MarksTellSteps, CallsAreMarked};
+ghost use Rattle.world_laws.specs.Laws.{RunsGoOn, RunsAreCounted, LogsGrow, ReadingsAreConsistent, MomentsAreTrue, NothingChangesBack, RepliesFit};
 
 /// A run goes on by every step that is not refused.
 #[tactic(auto, using(crate::proofs::Runs::run_more))]
@@ -20,11 +20,6 @@ pub fn logs_grow()
     ensures { LogsGrow }
 {}
 
-/// Every run leads to a state whose lists fit each other and whose numbers are in range.
-pub fn runs_have_shape()
-    ensures { RunsHaveShape }
-{}
-
 /// Where each reading begins no later than it ends, the readings of every run are consistent.
 #[tactic(auto, using(crate::proofs::Readings::readings_consistent))]
 pub fn readings_are_consistent()
@@ -37,36 +32,16 @@ pub fn moments_are_true()
     ensures { MomentsAreTrue }
 {}
 
-/// The stamps that replicas hold of registers never fall from one step to a later one.
-#[tactic(auto, using(crate::proofs::Rises::stamps_rise))]
-pub fn stamps_never_fall()
-    ensures { StampsNeverFall }
+/// From one state of a run to every later one, whatever is lost, repeated or killed between: the
+/// decisions of coordinators are never replaced, the floors of shards and the stamps that replicas
+/// hold never fall, and every message keeps its outside and what it says.
+pub fn nothing_changes_back()
+    ensures { NothingChangesBack }
 {}
 
-/// Two majorities of the same replicas, be it at two moments and of two registers, have a replica
-/// in common.
-#[tactic(auto, using(crate::proofs::Holders::held_meet))]
-pub fn majorities_meet()
-    ensures { MajoritiesMeet }
-{}
-
-/// Of the stamps above the opening one, a majority holds exactly those up to the greatest that it
-/// holds.
-#[tactic(auto, using(crate::proofs::Holders::held_exactly))]
-pub fn held_up_to_the_greatest()
-    ensures { HeldUpToTheGreatest }
-{}
-
-/// The notes of a state tell the step of every stamp: the first step after which a majority of the
-/// replicas held it or a greater one. So it is for each register whose number no other one has
-/// that a script writes.
-#[tactic(auto, using(crate::proofs::Marked::marks_tell))]
-pub fn marks_tell_steps()
-    ensures { MarksTellSteps }
-{}
-
-/// In a file that is built the notes tell the step of the stamp of each call.
-#[tactic(auto, using(crate::proofs::Calls::calls_marked))]
-pub fn calls_are_marked()
-    ensures { CallsAreMarked }
+/// In every run each message has its number and belongs to the exchange of a request that was sent;
+/// a reply has its request's owner, stage, target and ordinal, and is one that the target's row
+/// gives to that request.
+pub fn replies_fit()
+    ensures { RepliesFit }
 {}

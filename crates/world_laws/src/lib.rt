@@ -1,10 +1,9 @@
-//! Theory: what holds of every run of the machine.
+//! Theory: what every run of the machine keeps, over every list of steps that it accepts.
 #![tactic(auto)]
 
 mod laws;
 
 pub use laws::{
-    calls_are_marked, held_up_to_the_greatest, logs_grow, majorities_meet, marks_tell_steps,
-    moments_are_true, readings_are_consistent, runs_are_counted, runs_go_on, runs_have_shape,
-    stamps_never_fall,
+    logs_grow, moments_are_true, nothing_changes_back, readings_are_consistent, replies_fit,
+    runs_are_counted, runs_go_on,
 };

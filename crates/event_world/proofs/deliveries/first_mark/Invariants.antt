@@ -1,5 +1,5 @@
 use Rattle.std.proofs.Common.{◌≡◌, drop}
-use Rattle.rss_machine.specs.Marks.{first_mark as first_of}
+use Rattle.first_machine.specs.Marks.{first_mark as first_of}
 use Rattle.event_world.proofs.deliveries.first_mark.Given as goal
 
 -- none of the marks so far says so

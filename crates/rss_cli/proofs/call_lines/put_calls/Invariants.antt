@@ -1,5 +1,5 @@
 use Rattle.std.proofs.Common.{◌≡◌, ◌++◌, drop}
-use Rattle.rss_machine.specs.ReportText.{call_lines}
+use Rattle.first_machine.specs.ReportText.{call_lines}
 use Rattle.rss_cli.proofs.call_lines.put_calls.Given as goal
 
 abbrev pub invariant-loop-entry : goal.invariant-loop-entry

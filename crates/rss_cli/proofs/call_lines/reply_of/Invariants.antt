@@ -1,5 +1,5 @@
 use Rattle.std.proofs.Common.{◌≡◌, drop}
-use Rattle.rss_machine.specs.ReportText.{reply_in}
+use Rattle.first_machine.specs.ReportText.{reply_in}
 use Rattle.rss_cli.proofs.call_lines.reply_of.Given as goal
 
 abbrev pub invariant-loop-entry : goal.invariant-loop-entry

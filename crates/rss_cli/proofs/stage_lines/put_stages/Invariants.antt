@@ -1,5 +1,5 @@
 use Rattle.std.proofs.Common.{◌≡◌, ◌+◌, ◌++◌, drop}
-use Rattle.rss_machine.specs.ReportText.{stage_lines}
+use Rattle.first_machine.specs.ReportText.{stage_lines}
 use Rattle.rss_cli.proofs.stage_lines.put_stages.Given as goal
 
 abbrev pub invariant-loop-position : goal.invariant-loop-position

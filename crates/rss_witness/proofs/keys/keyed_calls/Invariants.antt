@@ -1,5 +1,5 @@
 use Rattle.std.proofs.Common.{◌≡◌, ◌+◌, ◌-◌, ◌≤◌, ◌++◌, length, vec_len}
-use Rattle.rss_machine.specs.Places.{keyed_from, keyed_calls as keyed_in}
+use Rattle.first_machine.specs.Places.{keyed_from, keyed_calls as keyed_in}
 use Rattle.rss_witness.proofs.keys.keyed_calls.Given as goal
 
 -- the calls that were passed and those that are left are the whole

@@ -2,8 +2,8 @@ use Rattle.std.proofs.Common.{◌≡◌, ℕ, Option, Some, None, refl, ◌∙�
 use Rattle.std.specs.Option.{unwrap_or, option_map}
 use Rattle.std.specs.List.{slice_get}
 use Rattle.std.proofs.lemmas.Option.{unwrap_or-slice_get}
-use Rattle.rss_machine.specs.State.{no_call}
-use Rattle.rss_machine.specs.declared.state.Call.{Call}
+use Rattle.first_machine.specs.State.{no_call}
+use Rattle.first_machine.specs.declared.state.Call.{Call}
 use Rattle.rss_witness.proofs.keys.round_step.Goals as goal
 
 or_no_call : (noted : Option Call) → unwrap_or (option_map (λ c. c.round_step) noted) 0 ≡ (unwrap_or noted no_call).round_step

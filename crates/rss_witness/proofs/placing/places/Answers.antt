@@ -1,7 +1,7 @@
 use Rattle.std.proofs.Common.{arith, ◌≡◌, ◌<◌, ◌^◌, ◌∙◌, ap, length}
 use Rattle.std.proofs.lemmas.List.Sorted.{length_permutation}
 use Rattle.std.proofs.lemmas.Result.{IfOk-weaker}
-use Rattle.rss_machine.specs.Places.{ArePlaces, numbered}
+use Rattle.first_machine.specs.Places.{ArePlaces, numbered}
 use Rattle.rss_witness.proofs.Ascending.{are_places}
 use Rattle.rss_witness.proofs.placing.places.Goals as goal
 

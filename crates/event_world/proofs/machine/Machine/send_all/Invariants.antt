@@ -1,6 +1,6 @@
 use Rattle.std.proofs.Common.{◌≡◌, ◌+◌, ◌<◌, ◌≤◌, ◌^◌, length}
 use Rattle.event_world.specs.Machine.{state_of}
-use Rattle.rss_machine.specs.Moves.{sends}
+use Rattle.first_machine.specs.Moves.{sends}
 use Rattle.event_world.proofs.machine.Machine.send_all.Given as goal
 
 -- what was sent and what is left to send are the whole

@@ -1,6 +1,6 @@
 use Rattle.std.proofs.Common.{arith, ap, ◌∙◌, ◌<◌}
-use Rattle.rss_machine.specs.Effect.{effect}
-use Rattle.rss_machine.specs.State.{State}
+use Rattle.first_machine.specs.Effect.{effect}
+use Rattle.first_machine.specs.State.{State}
 use Rattle.event_world.specs.Machine.{state_of}
 use Rattle.event_world.proofs.Allowed.{allowed_parts}
 use Rattle.event_world.proofs.machine.Machine.take.Goals as goal

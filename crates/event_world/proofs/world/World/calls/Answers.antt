@@ -1,5 +1,5 @@
 use Rattle.std.proofs.Common.{arith, ◌≤◌, ◌<◌, ◌^◌, length}
-use Rattle.rss_machine.specs.Run.{steps_of}
+use Rattle.first_machine.specs.Run.{steps_of}
 use Rattle.event_world.proofs.Readiness.{ready}
 use Rattle.event_world.proofs.world.World.calls.Goals as goal
 

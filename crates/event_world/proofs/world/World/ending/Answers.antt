@@ -1,4 +1,4 @@
-use Rattle.rss_machine.specs.Run.{steps_of}
+use Rattle.first_machine.specs.Run.{steps_of}
 use Rattle.event_world.proofs.Readiness.{few_stages}
 use Rattle.event_world.proofs.world.World.ending.Goals as goal
 

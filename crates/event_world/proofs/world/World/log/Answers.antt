@@ -1,7 +1,7 @@
-use Rattle.rss_machine.specs.Run.{steps_of}
+use Rattle.first_machine.specs.Run.{steps_of}
 use Rattle.event_world.specs.Machine.{state_of}
 use Rattle.event_world.proofs.Keeping.{ordered}
-use Rattle.world_laws.proofs.Readings.{readings_consistent}
+use Rattle.first_laws.proofs.Readings.{readings_consistent}
 use Rattle.event_world.proofs.world.World.log.Goals as goal
 
 pub returns-clause-consistent : goal.returns-clause-consistent

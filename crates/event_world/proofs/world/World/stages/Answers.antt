@@ -1,5 +1,5 @@
 use Rattle.std.proofs.Common.{◌≤◌, length, arith}
-use Rattle.rss_machine.specs.Run.{steps_of}
+use Rattle.first_machine.specs.Run.{steps_of}
 use Rattle.event_world.proofs.Readiness.{few_stages}
 use Rattle.event_world.proofs.world.World.stages.Goals as goal
 

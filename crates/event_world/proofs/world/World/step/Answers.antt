@@ -1,6 +1,6 @@
 use Rattle.std.proofs.Common.{◌≡◌, ◌≤◌, ◌<◌, ◌^◌, [], ◌∷◌, ◌++◌, ◌∙◌, sym}
 use Rattle.event_world.proofs.Keeping.{kept_more}
-use Rattle.rss_machine.specs.Run.{steps_of}
+use Rattle.first_machine.specs.Run.{steps_of}
 use Rattle.event_world.proofs.Readiness.{ready, ready_for_step}
 use Rattle.event_world.proofs.world.World.step.Goals as goal
 

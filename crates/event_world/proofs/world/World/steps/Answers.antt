@@ -1,7 +1,7 @@
 use Rattle.std.proofs.Common.{arith, ◌≤◌}
-use Rattle.rss_machine.specs.Run.{steps_of}
+use Rattle.first_machine.specs.Run.{steps_of}
 use Rattle.event_world.specs.Machine.{state_of}
-use Rattle.world_laws.proofs.Shapes.{shape_run}
+use Rattle.first_laws.proofs.Shapes.{shape_run}
 use Rattle.event_world.proofs.world.World.steps.Goals as goal
 
 pub returns-clause-few : goal.returns-clause-few

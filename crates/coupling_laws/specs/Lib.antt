@@ -1,0 +1,3 @@
+pub mod Calls
+pub mod Covers
+pub mod Moments

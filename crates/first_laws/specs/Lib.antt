@@ -1,0 +1,4 @@
+pub mod Shape
+pub mod Registers
+pub mod Holders
+pub mod Laws

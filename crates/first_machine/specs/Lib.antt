@@ -1,0 +1,12 @@
+pub mod Marks
+pub mod State
+pub mod Built
+pub mod Moves
+pub mod Effect
+pub mod Refusal
+pub mod Run
+pub mod StepOfStamp
+pub mod Places
+pub mod Endings
+pub mod ReportText
+pub mod Samples

@@ -1,0 +1,12 @@
+pub mod OnePass
+pub mod PassGoesOn
+pub mod Keys
+pub mod AfterWrites
+pub mod FromLastWriters
+pub mod Readers
+pub mod Parts
+pub mod SortedCalls
+pub mod Filtered
+pub mod SetBySet
+pub mod RegularByKeys
+pub mod ToLastWriters

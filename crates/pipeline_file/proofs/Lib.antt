@@ -1,0 +1,5 @@
+mod Distinct
+mod Owners
+mod Meanings
+mod Bodies
+mod Texts

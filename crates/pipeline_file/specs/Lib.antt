@@ -1,0 +1,7 @@
+pub mod Declarations
+pub mod Doubles
+pub mod Services
+pub mod Resolve
+pub mod NameTables
+pub mod Scripts
+pub mod Document

@@ -1,0 +1,2 @@
+mod KnownKeys
+pub mod Laws

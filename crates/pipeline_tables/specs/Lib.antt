@@ -1,0 +1,9 @@
+pub mod Faults
+pub mod Keys
+pub mod Values
+pub mod Targets
+pub mod Lists
+pub mod Rows
+pub mod Services
+pub mod FaultText
+pub mod Limits

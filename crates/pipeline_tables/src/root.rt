@@ -1,0 +1,50 @@
+//! What the root of a file says.
+
+ghost use Rattle.toml.specs.View.{table_view};
+ghost use Rattle.pipeline_tables.specs.Faults.{Tells};
+ghost use Rattle.pipeline_tables.specs.Rows.{root_of};
+
+use crate::fault::{FileError, FileKey, Place, Table};
+use crate::keys::check_keys;
+use crate::limits::{LONGEST_END, MOST_REGISTERS, MOST_STEPS};
+use crate::lists::names_or_none;
+use crate::tables::RootTable;
+use crate::values::{number_or, optional_number, replicas_or};
+use std::alloc::Global;
+
+/// The root's own keys.
+#[tactic(auto, unfolding(crate::specs::Rows::root_of))]
+pub fn read_root(alloc: Global, table: &toml::Table) -> Result<RootTable, FileError>
+    ensures { Tells result (root_of (table_view table.now)) }
+{
+    let keys = [
+        FileKey::Tries,
+        FileKey::MaxSteps,
+        FileKey::EarliestEnd,
+        FileKey::Replicas,
+        FileKey::Registers,
+        FileKey::Drivers,
+        FileKey::Shard,
+        FileKey::Pipe,
+        FileKey::Stage,
+        FileKey::Withhold,
+        FileKey::Kill,
+        FileKey::Service,
+    ];
+    let at = |key| Place::key(Table::Root, 0, key);
+    check_keys(&keys, Table::Root, 0, table)?;
+    let tries = number_or(table, at(FileKey::Tries), 1, 8, 3)?;
+    let max_steps = number_or(table, at(FileKey::MaxSteps), 1, MOST_STEPS, 100_000)?;
+    let earliest_end = number_or(table, at(FileKey::EarliestEnd), 0, LONGEST_END, 2_000)?;
+    let replicas = replicas_or(table, at(FileKey::Replicas), 3)?;
+    let registers = names_or_none(alloc, table, at(FileKey::Registers), MOST_REGISTERS)?;
+    let drivers = optional_number(table, at(FileKey::Drivers), 1, 16)?;
+    Ok(RootTable {
+        tries: tries as u8,
+        max_steps,
+        earliest_end,
+        replicas,
+        registers,
+        drivers: drivers.map(|drivers| drivers as u8),
+    })
+}

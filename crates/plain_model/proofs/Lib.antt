@@ -1,0 +1,15 @@
+pub mod Ascending
+pub mod Behinds
+pub mod Candidates
+pub mod Closure
+pub mod FoundLemmas
+pub mod Generated
+pub mod LegalTurns
+pub mod Lists
+pub mod Marked
+pub mod Named
+pub mod Pairs
+pub mod RealTimes
+pub mod RegularOrders
+pub mod TableLemmas
+pub mod Turns

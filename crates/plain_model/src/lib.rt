@@ -1,0 +1,20 @@
+//! Table: slow and plain functions that compute what the model defines of a history: whether an
+//! order of its calls is legal, what is potentially causal, and whether an order is regular.
+#![tactic(auto)]
+
+mod calls;
+mod candidacy;
+mod causality;
+mod formulas;
+mod legality;
+mod messages;
+mod realtime;
+mod regularity;
+mod tables;
+
+pub use causality::causal;
+pub use legality::legal;
+pub use regularity::regular;
+
+#[cfg(test)]
+mod row_tests;

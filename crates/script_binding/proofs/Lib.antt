@@ -1,0 +1,4 @@
+pub mod AllLimited
+pub mod AllNamed
+pub mod Known
+pub mod Passing

@@ -1,0 +1,62 @@
+-- how much a script does, as if every `when` held
+use Rattle.std.specs.Prelude.{ℕ, ◌+◌, ◌-◌, ◌*◌, if◌then◌else◌, Bool, true, false, ◌&&◌, nat_le, List, [], ◌∷◌, ◌++◌, length, get_or, take}
+use Rattle.pipeline_lang.specs.declared.script.Statement.TheVariants.{Read, Write, Snap, Txn, Fence, Repeat, When, End}
+use Rattle.script_binding.specs.declared.tally.Tally.{Tally}
+use Rattle.script_binding.specs.Environment.{Bound}
+
+-- a call, or a fence statement
+abbrev pub is_call : Bound → Bool
+is_call (Read v r) = true
+is_call (Write r e) = true
+is_call (Snap pairs) = true
+is_call (Txn pairs guard writes) = true
+is_call Fence = true
+is_call s = false
+
+-- the turns round the statement below: `outer` has the turns round each open block, the innermost last
+abbrev pub turns_after : ℕ → List ℕ → Bound → ℕ
+turns_after turns outer (Repeat n) = turns * n
+turns_after turns outer End = get_or outer (length outer - 1) 1
+turns_after turns outer s = turns
+
+-- the turns round each block that is open below a statement
+abbrev pub outer_after : ℕ → List ℕ → Bound → List ℕ
+outer_after turns outer (Repeat n) = outer ++ turns ∷ []
+outer_after turns outer (When c) = outer ++ turns ∷ []
+outer_after turns outer End = take (length outer - 1) outer
+outer_after turns outer s = outer
+
+-- how many statements are executed, each as often as the turns round it
+abbrev pub executed_from : ℕ → List ℕ → List Bound → ℕ
+executed_from turns outer [] = 0
+executed_from turns outer (s ∷ ss) =
+    turns + executed_from (turns_after turns outer s) (outer_after turns outer s) ss
+
+-- how many calls and fence statements are executed
+abbrev pub called_from : ℕ → List ℕ → List Bound → ℕ
+called_from turns outer [] = 0
+called_from turns outer (s ∷ ss) =
+    (if is_call s then turns else 0) + called_from (turns_after turns outer s) (outer_after turns outer s) ss
+
+-- how many statements a script executes
+abbrev pub executed : List Bound → ℕ
+executed script = executed_from 1 [] script
+
+-- how many calls and fence statements a script executes
+abbrev pub called : List Bound → ℕ
+called script = called_from 1 [] script
+
+-- the sums over no stages
+abbrev pub nothing : Tally
+nothing = record { statements = 0; calls = 0 }
+
+-- the sums with one stage more, which counts as a call
+abbrev pub tallied : Tally → List Bound → Tally
+tallied t script = record {
+  statements = t.statements + executed script;
+  calls = t.calls + called script + 1;
+}
+
+-- whether the sums are within the limits of a file
+abbrev pub is_within : Tally → Bool
+is_within t = nat_le t.statements 200000 && nat_le t.calls 20000

@@ -1,0 +1,12 @@
+pub mod Counts
+pub mod Environment
+pub mod Limited
+pub mod Limits
+pub mod Mentions
+pub mod NameFaults
+pub mod Named
+pub mod Naming
+pub mod Numbering
+pub mod Outcome
+pub mod Samples
+pub mod Shapes

@@ -1,0 +1,3 @@
+pub mod LockView
+pub mod Kept
+pub mod Settled

@@ -1,0 +1,2 @@
+pub mod PreparedView
+pub mod Kept

@@ -1,0 +1,7 @@
+//! Code: the versions of a shard's keys.
+#![tactic(auto)]
+
+mod row;
+mod versions;
+
+pub use versions::Versions;

@@ -1,0 +1,4 @@
+pub mod Decided
+pub mod Applied
+pub mod Answered
+pub mod ShardLaws

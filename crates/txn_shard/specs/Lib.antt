@@ -1,0 +1,4 @@
+pub mod ShardView
+pub mod Parts
+pub mod Applying
+pub mod Laws
