@@ -11,8 +11,8 @@ ghost use Rattle.rss_tables.specs.RegisterSession.{round_requests, opening_sessi
 
 use crate::machine::Machine;
 use crate::next::Next;
-use gryff_quorum::RegSession;
 use first_machine::{Call, Stage};
+use gryff_quorum::RegSession;
 use rss_machine::Life;
 use rss_model::{Entry, How, Op, Token};
 use rss_names::{CallId, ServiceId, StageId};

@@ -4,9 +4,9 @@ ghost use Rattle.std.specs.Prelude.{◌≡◌, ◌+◌, ◌<◌, ◌≤◌, ◌^
 ghost use Rattle.event_world.specs.Machine.{state_of, HasRoom, SameButRoom};
 ghost use Rattle.first_machine.specs.Moves.{sends, sends_one, slot_of as slot_for};
 
+use first_machine::{Call, Mark, Stage};
 use gryff_quorum::RegSession;
 use reg_replica::Replica;
-use first_machine::{Call, Mark, Stage};
 use rss_model::{Entry, Shown};
 use rss_names::{StageId, Target};
 use rss_wire::{Net, Outbox, Request};

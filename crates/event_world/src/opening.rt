@@ -6,10 +6,10 @@ ghost use Rattle.first_machine.specs.State.{start, opening_replica, built_replic
 
 use crate::acts::BUILT_REPLICAS;
 use crate::machine::Machine;
+use first_machine::{Call, Stage};
 use gryff_quorum::RegSession;
 use pipeline_lang::Config;
 use reg_replica::Replica;
-use first_machine::{Call, Stage};
 use rss_machine::Life;
 use rss_names::{Key, ServiceId};
 use rss_tables::RegWork;

@@ -7,8 +7,8 @@ ghost use Rattle.first_machine.specs.Refusal.{may_act as may_act_in};
 ghost use Rattle.std.specs.List.{list_all, list_any};
 
 use crate::machine::Machine;
-use pipeline_lang::Config;
 use first_machine::Stage;
+use pipeline_lang::Config;
 use rss_machine::{Ending, Life, StageState};
 use rss_model::How;
 use rss_names::StageId;

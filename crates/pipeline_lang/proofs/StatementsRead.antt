@@ -1,31 +1,24 @@
 -- What is read as a statement or a script has the words of the grammar.
-use Rattle.std.proofs.Common.{◌≡◌, ℕ, zero, suc, ◌+◌, ◌-◌, ◌*◌, ◌/◌, ◌%◌, ◌^◌, ◌≤◌, ◌<◌, Bool, true, false, ◌&&◌, nat_lt, nat_le, cond, List, [], ◌∷◌, ◌++◌, length, Result, Ok, Err, Option, Some, None, refl, ap, ◌∙◌, sym, arith, subst, append_assoc}
-use Rattle.std.specs.Prelude.{codes, option_map}
+use Rattle.std.proofs.Common.{◌≡◌, ℕ, zero, suc, ◌+◌, Bool, true, false, cond, List, [], ◌∷◌, ◌++◌, length, Result, Ok, Option, Some, None, refl, ap, ◌∙◌, sym, subst, append_assoc}
+use Rattle.std.specs.Prelude.{codes}
 use Rattle.std.specs.Fmt.{decimal}
 use Rattle.std.specs.Str.{bytes_eq}
 use Rattle.std.proofs.lemmas.List.{append-nil}
-use Rattle.std.proofs.lemmas.Fmt.{decimal_step, decimal_digit}
-use Rattle.std.proofs.lemmas.Bool.{and_parts, ltb-true, leb-true}
 use Rattle.std.proofs.lemmas.Slice.Eq.{bytes_eq-Decides}
-use Rattle.rss_names.specs.Names.{is_name}
-use Rattle.pipeline_lang.specs.declared.script.Term.{Term}
-use Rattle.pipeline_lang.specs.declared.script.Term.TheVariants.{Number, Variable}
 use Rattle.pipeline_lang.specs.declared.script.Expr.{Expr}
-use Rattle.pipeline_lang.specs.declared.script.Expr.TheVariants.{One, Plus, Minus}
 use Rattle.pipeline_lang.specs.declared.script.Compare.{Compare}
-use Rattle.pipeline_lang.specs.declared.script.Compare.TheVariants.{Equal, Less}
 use Rattle.pipeline_lang.specs.declared.script.Statement.TheVariants as statement
 use Rattle.pipeline_lang.specs.declared.keyword.Keyword.{Keyword}
 use Rattle.pipeline_lang.specs.declared.keyword.Keyword.TheVariants as key
 use Rattle.pipeline_lang.specs.Tokens.{Token, tokens, place, statement_lines, column}
-use Rattle.pipeline_lang.specs.Reading.{◌>>=◌, meant, token_at, word_at, begins, behind, end_at, members_at}
-use Rattle.pipeline_lang.specs.Terms.{is_digit, digits, number, number_from, name, own, term, name_at, own_at, number_at, term_at, sum_at, expr_at, comparison_at, compare_at}
+use Rattle.pipeline_lang.specs.Reading.{◌>>=◌, token_at, word_at, begins, behind, end_at, members_at}
+use Rattle.pipeline_lang.specs.Terms.{name_at, own_at, number_at, expr_at, compare_at}
 use Rattle.pipeline_lang.specs.Statements.{Raw, Pair, Written, keyword, pair_at, written_at, pairs_at, writes_at, let_at, read_at, write_at, snap_at, guard_at, reads_at, txn_at, named_at, put_at, take_at, repeat_at, when_at, parts_at, statement_at}
 use Rattle.pipeline_lang.specs.Scripts.{open_behind, balanced, nested_at, in_line, closed, statements_of, script_of}
-use Rattle.pipeline_lang.specs.Grammar.{term_word, expr_words, compare_words, pair_words, written_words, more_words, list_words, guard_words, statement_words, words, LinesSpell}
+use Rattle.pipeline_lang.specs.Grammar.{expr_words, compare_words, pair_words, written_words, more_words, list_words, guard_words, statement_words, words, LinesSpell}
 use Rattle.pipeline_lang.proofs.Parts.{bind_ok, ok_pair}
-use Rattle.pipeline_lang.proofs.Spelled.{some_same, name_same, in_line_read, scripts_same}
-use Rattle.pipeline_lang.proofs.TermsRead.{Made, made_of, either_of, Meant, token_words, name_words, own_words, number_words, word_words, begins_words, read_expr_words, compare_read_words, joined}
+use Rattle.pipeline_lang.proofs.Spelled.{some_same, in_line_read, scripts_same}
+use Rattle.pipeline_lang.proofs.TermsRead.{made_of, either_of, token_words, name_words, own_words, number_words, word_words, begins_words, read_expr_words, compare_read_words, joined}
 
 -- a variable and a name
 two_words : {B : Type 0} (make : List ℕ → List ℕ → B) (spell : B → List (List ℕ)) (head : List (List ℕ)) → ((v k : List ℕ) → spell (make v k) ≡ head ++ (v ∷ k ∷ [])) → (ts : List Token) (y : B) (rest : List Token) → (own_at ts >>= λ variable. ◌>>=◌ {B = B × List Token} (name_at variable.1) (λ named. Ok (make variable.0 named.0, named.1))) ≡ Ok (y, rest) → head ++ words ts ≡ spell y ++ words rest

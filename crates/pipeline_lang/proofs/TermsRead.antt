@@ -1,5 +1,5 @@
 -- What is read as a term, an expression or a comparison has the words of the grammar.
-use Rattle.std.proofs.Common.{◌≡◌, ℕ, zero, suc, ◌+◌, ◌-◌, ◌*◌, ◌/◌, ◌%◌, ◌^◌, ◌≤◌, ◌<◌, Bool, true, false, ◌&&◌, nat_lt, nat_le, cond, List, [], ◌∷◌, ◌++◌, length, Result, Ok, Err, Option, Some, None, refl, ap, ◌∙◌, sym, arith, subst, append_assoc}
+use Rattle.std.proofs.Common.{◌≡◌, ℕ, zero, suc, ◌+◌, ◌-◌, ◌*◌, ◌/◌, ◌%◌, ◌^◌, ◌≤◌, ◌<◌, Bool, true, false, ◌&&◌, nat_lt, nat_le, cond, List, [], ◌∷◌, ◌++◌, Result, Ok, Err, Option, Some, None, refl, ap, ◌∙◌, sym, arith, append_assoc}
 use Rattle.std.specs.Prelude.{codes, option_map}
 use Rattle.std.specs.Fmt.{decimal}
 use Rattle.std.specs.Str.{bytes_eq}
@@ -14,15 +14,10 @@ use Rattle.pipeline_lang.specs.declared.script.Expr.{Expr}
 use Rattle.pipeline_lang.specs.declared.script.Expr.TheVariants.{One, Plus, Minus}
 use Rattle.pipeline_lang.specs.declared.script.Compare.{Compare}
 use Rattle.pipeline_lang.specs.declared.script.Compare.TheVariants.{Equal, Less}
-use Rattle.pipeline_lang.specs.declared.script.Statement.TheVariants as statement
-use Rattle.pipeline_lang.specs.declared.keyword.Keyword.{Keyword}
-use Rattle.pipeline_lang.specs.declared.keyword.Keyword.TheVariants as key
-use Rattle.pipeline_lang.specs.Tokens.{Token, tokens, place, statement_lines, column}
-use Rattle.pipeline_lang.specs.Reading.{◌>>=◌, meant, token_at, word_at, begins, behind, end_at, members_at}
+use Rattle.pipeline_lang.specs.Tokens.{Token}
+use Rattle.pipeline_lang.specs.Reading.{◌>>=◌, meant, token_at, word_at, begins, behind}
 use Rattle.pipeline_lang.specs.Terms.{is_digit, digits, number, number_from, name, own, term, name_at, own_at, number_at, term_at, sum_at, expr_at, comparison_at, compare_at}
-use Rattle.pipeline_lang.specs.Statements.{Raw, Pair, Written, keyword, pair_at, written_at, pairs_at, writes_at, let_at, read_at, write_at, snap_at, guard_at, reads_at, txn_at, named_at, put_at, take_at, repeat_at, when_at, parts_at, statement_at}
-use Rattle.pipeline_lang.specs.Scripts.{open_behind, balanced, nested_at, in_line, closed, statements_of, script_of}
-use Rattle.pipeline_lang.specs.Grammar.{term_word, expr_words, compare_words, pair_words, written_words, more_words, list_words, guard_words, statement_words, words, LinesSpell}
+use Rattle.pipeline_lang.specs.Grammar.{term_word, expr_words, compare_words, words}
 use Rattle.pipeline_lang.proofs.Parts.{bind_ok, ok_pair}
 use Rattle.pipeline_lang.proofs.Spelled.{some_same, name_same}
 

@@ -82,9 +82,7 @@ fn respond<S: Source>(alloc: Global, words: &[String], source: &mut S) -> Result
     }
     match read_all(alloc, source, LONGEST_INPUT) {
         Ok(input) => made(answer_of(alloc, input.as_slice())),
-        Err(ReadError::TooLong) => {
-            made(fault_answer(alloc, Fault::TooLong, Status::File))
-        }
+        Err(ReadError::TooLong) => { made(fault_answer(alloc, Fault::TooLong, Status::File)) }
         Err(ReadError::ReadFault) => Err(Halt::ReadFault),
         Err(ReadError::OutOfMemory) => Err(Halt::OutOfMemory),
     }

@@ -6,8 +6,8 @@ ghost use Rattle.first_machine.specs.ReportText.{how_text, stub_text, stage_stat
 
 use crate::names::put_stage;
 use crate::text::put;
-use pipeline_lang::Config;
 use first_machine::Stage;
+use pipeline_lang::Config;
 use rss_machine::{Ending, Life, StageState};
 use rss_model::How;
 use rss_tables::StubEnd;

@@ -239,7 +239,6 @@ stuck_without_steps_file = record {
 
 abbrev stuck_without_steps_steps : List Step
 stuck_without_steps_steps =
-
     []
 
 -- the same without a step
@@ -313,4 +312,3 @@ step-limit-replay : replay_report step_limit_replay_file step_limit_replay_steps
     []))
 unfolding run run_from refusal effect shard_after shard_reply replica_after replica_reply ending_of report_text call_line stage_line statements_to_end has_ended reply_of table_at all_zero digits
 step-limit-replay = refl
-

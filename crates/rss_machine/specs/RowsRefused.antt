@@ -270,4 +270,3 @@ readings-accepted : replay_report readings_accepted_file readings_accepted_steps
     []))
 unfolding run run_from refusal effect shard_after shard_reply replica_after replica_reply ending_of report_text call_line stage_line statements_to_end has_ended reply_of table_at all_zero digits
 readings-accepted = refl
-

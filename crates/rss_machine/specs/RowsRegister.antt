@@ -345,4 +345,3 @@ read-lost-then-stub : replay_report read_lost_then_stub_file read_lost_then_stub
     []))
 unfolding run run_from refusal effect shard_after shard_reply replica_after replica_reply ending_of report_text call_line stage_line statements_to_end has_ended reply_of table_at all_zero digits
 read-lost-then-stub = refl
-

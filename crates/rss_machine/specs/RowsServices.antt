@@ -263,4 +263,3 @@ three-shards-two-services : replay_report three_shards_two_services_file three_s
     []))
 unfolding run run_from refusal effect shard_after shard_reply replica_after replica_reply ending_of report_text call_line stage_line statements_to_end has_ended reply_of table_at all_zero digits
 three-shards-two-services = refl
-

@@ -294,4 +294,3 @@ stub-unfenced : replay_report stub_unfenced_file stub_unfenced_steps ≡ Some (l
     []))
 unfolding run run_from refusal effect shard_after shard_reply replica_after replica_reply ending_of report_text call_line stage_line statements_to_end has_ended reply_of table_at all_zero digits
 stub-unfenced = refl
-

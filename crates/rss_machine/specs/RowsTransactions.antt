@@ -186,4 +186,3 @@ guard-blocked-then-fails : replay_report guard_blocked_then_fails_file guard_blo
     []))
 unfolding run run_from refusal effect shard_after shard_reply replica_after replica_reply ending_of report_text call_line stage_line statements_to_end has_ended reply_of table_at all_zero digits
 guard-blocked-then-fails = refl
-

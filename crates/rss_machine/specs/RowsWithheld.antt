@@ -174,4 +174,3 @@ generated-one-sum : serial_sum generated_one_sum_file ≡ Some (lines (
     []))
 unfolding serial_from run run_from refusal effect shard_after shard_reply replica_after replica_reply ending_of report_text call_line stage_line statements_to_end has_ended reply_of table_at all_zero digits
 generated-one-sum = refl
-

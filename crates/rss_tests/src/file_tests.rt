@@ -49,9 +49,18 @@ fn faults_of_tables_are_named(rt: HostRuntime) -> Result<(), Fail> {
 fn faults_of_scripts_are_named(rt: HostRuntime) -> Result<(), Fail> {
     let alloc = rt.alloc();
     let rows = [
-        ("let v = 1 +\n", "Syntax stage.1.script statement 1 column 12"),
-        ("read v q\n", "UnknownName stage.1.script statement 1 column 8"),
-        ("repeat 1001\nend\n", "OverLimit stage.1.script statement 1 column 8"),
+        (
+            "let v = 1 +\n",
+            "Syntax stage.1.script statement 1 column 12",
+        ),
+        (
+            "read v q\n",
+            "UnknownName stage.1.script statement 1 column 8",
+        ),
+        (
+            "repeat 1001\nend\n",
+            "OverLimit stage.1.script statement 1 column 8",
+        ),
         (
             "repeat 2\nrepeat 2\nrepeat 2\nrepeat 2\nrepeat 2\nend\nend\nend\nend\nend\n",
             "OverLimit stage.1.script statement 5 column 1",
@@ -61,8 +70,14 @@ fn faults_of_scripts_are_named(rt: HostRuntime) -> Result<(), Fail> {
             "OverLimit stage.1.script",
         ),
         ("wait a\n", "SpawnShape stage.1.script statement 1 column 6"),
-        ("let status = 1\n", "Syntax stage.1.script statement 1 column 5"),
-        ("# a note\n\n  when 1 < 2\n", "Syntax stage.1.script statement 1 column 13"),
+        (
+            "let status = 1\n",
+            "Syntax stage.1.script statement 1 column 5",
+        ),
+        (
+            "# a note\n\n  when 1 < 2\n",
+            "Syntax stage.1.script statement 1 column 13",
+        ),
     ];
     for (script, fault) in rows {
         let file = with_script(alloc, script)?;
@@ -77,7 +92,8 @@ fn faults_of_scripts_are_named(rt: HostRuntime) -> Result<(), Fail> {
 #[test]
 fn keys_of_two_services_do_not_mix(rt: HostRuntime) -> Result<(), Fail> {
     let alloc = rt.alloc();
-    let file = "[[shard]]\nname = \"s1\"\nkeys = [\"x\"]\n[[shard]]\nname = \"s2\"\nkeys = [\"z\"]\nservice = \"second\"\n[[stage]]\nname = \"a\"\nscript = '''\nsnap v x, w z\n'''\n[[service]]\nname = \"second\"\nkind = \"txn\"\n";
+    let file =
+        "[[shard]]\nname = \"s1\"\nkeys = [\"x\"]\n[[shard]]\nname = \"s2\"\nkeys = [\"z\"]\nservice = \"second\"\n[[stage]]\nname = \"a\"\nscript = '''\nsnap v x, w z\n'''\n[[service]]\nname = \"second\"\nkind = \"txn\"\n";
     let left = replay(alloc, file, &[], &[])?;
     assert_eq!(rt; left.code, 2);
     assert_eq!(rt;
@@ -93,7 +109,10 @@ fn valid_files_that_do_not_run_are_refused_by_name(rt: HostRuntime) -> Result<()
     let file = with_script(alloc, "let v = 1\nfence\n")?;
     let left = replay(alloc, file.as_str(), &[], &[])?;
     assert_eq!(rt; left.code, 2);
-    assert_eq!(rt; left.text.as_slice(), b"fault file NotBuilt file\n".as_slice());
+    assert_eq!(rt;
+        left.text.as_slice(),
+        b"fault file NotBuilt file\n".as_slice()
+    );
     Ok(())
 }
 
@@ -133,7 +152,11 @@ fn kinds_of_step_that_do_not_run_are_refused_by_name(rt: HostRuntime) -> Result<
         let input = format!(in alloc; "{FORM}%steps\nact 1 10 14\n{word} 1 20 24\n")?;
         let left = replay(alloc, input.as_str(), &[], &[])?;
         assert_eq!(rt; left.code, 2, "{word}");
-        assert_eq!(rt; left.text.as_slice(), b"fault step 2 NotBuilt\n".as_slice(), "{word}");
+        assert_eq!(rt;
+            left.text.as_slice(),
+            b"fault step 2 NotBuilt\n".as_slice(),
+            "{word}"
+        );
     }
     Ok(())
 }

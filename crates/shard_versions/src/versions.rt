@@ -156,7 +156,14 @@ mod tests {
         for time in 1..20001u32 {
             versions.make_room(KEY)?;
             if !versions.is_written_since(KEY, time as u64) {
-                versions.push(KEY, Version { value: 7, time: time as u64, writer: time });
+                versions.push(
+                    KEY,
+                    Version {
+                        value: 7,
+                        time: time as u64,
+                        writer: time,
+                    },
+                );
             }
         }
         Ok(versions)
@@ -168,7 +175,14 @@ mod tests {
         for (value, time) in [(7, 10), (8, 20)] {
             versions.make_room(KEY)?;
             if !versions.is_written_since(KEY, time) {
-                versions.push(KEY, Version { value, time, writer: 1 });
+                versions.push(
+                    KEY,
+                    Version {
+                        value,
+                        time,
+                        writer: 1,
+                    },
+                );
             }
         }
         for (time, want) in [(9, (0, 0)), (19, (7, 10)), (20, (8, 20))] {

@@ -29,7 +29,9 @@ impl Shard {
     {
         let prepared = self.prepared.attempts();
         let wounded = &mut self.wounded;
-        let answer = self.locks.ask(attempt, coordinator, reads, writes, prepared, wounded);
+        let answer = self
+            .locks
+            .ask(attempt, coordinator, reads, writes, prepared, wounded);
         let list = mem::replace(&mut self.shown, Vec::new(self.alloc));
         reply_to(answer, &self.store, reads, list)
     }
@@ -60,7 +62,13 @@ impl Shard {
                 let prepare_time = latest.max((self.floor + 1).max(least + 1));
                 let list = mem::replace(&mut self.writes, Vec::new(self.alloc));
                 let writes = filled(list, writes);
-                let entry = PreparedWriter::new(attempt, coordinator, prepare_time, earliest_end, writes);
+                let entry = PreparedWriter::new(
+                    attempt,
+                    coordinator,
+                    prepare_time,
+                    earliest_end,
+                    writes,
+                );
                 self.prepared.add(entry);
                 Reply::Prepared { prepare_time }
             }

@@ -56,7 +56,7 @@ impl Model for Shard {
     ghost use Rattle.indexmap.specs.IndexMap.{spare};
     ghost use Rattle.indexmap.specs.IndexSet.{spare as set_spare};
     ghost use Rattle.txn_shard.specs.ShardView.{ShardView};
-                
+
     ghost Value = { ShardView };
 
     ghost view = { λ s. record { shard = record { locks = s.locks.locks; prepared = s.prepared.prepared; decisions = s.decisions.entries; store = s.store.store; floor = s.floor; released = s.released.keys }; room = record { locks = s.locks.room; prepared = s.prepared.room; versions = s.store.rooms; decisions = spare s.decisions; released = set_spare s.released; wounded = vec_capacity s.wounded; shown = vec_capacity s.shown; writes = vec_capacity s.writes; blocking = vec_capacity s.blocking; skipped = vec_capacity s.skipped } } };

@@ -24,7 +24,6 @@ use Rattle.rss_tables.specs.declared.register_session.RegPhase.TheVariants as ph
 use Rattle.rss_tables.specs.declared.register_session.RegWork.{RegWork}
 use Rattle.rss_tables.specs.declared.register_session.RegWork.TheVariants as work
 use Rattle.world_laws.specs.Proper.{registers_of, are_kept_by, is_proper, work_registers}
-
 use Rattle.std.specs.Prelude.{not, nat_lt}
 use Rattle.std.proofs.lemmas.Bool.{and_parts}
 use Rattle.truetime.specs.Reading.{Reading}

@@ -13,9 +13,10 @@ returns-in_err-row-clause-read g c =
 
 pub loop-index-preserved : goal.loop-index-preserved
 loop-index-preserved g c =
-    let step = rows_from_drop (g.R.Row.says c.args.root.now) c.args.place (c.loop-index.index + 1) c.args.values.now c.loop-index.index c.index-values-index.result c.loop-index-test.true in
-    (rw c.in_ok-push.ensures.ok (turn_ok _ _ _ c.loop-index.rows _ _ c.loop-index.invariant.0 (rw (← c.index-values-index.is) at step) c.in_ok-row.ensures),
-     grind (arith, common_steps))
+    let step = rows_from_drop (g.R.Row.says c.args.root.now) c.args.place (c.loop-index.index + 1) c.args.values.now c.loop-index.index c.index-values-index.result c.loop-index-test.true in (
+      rw c.in_ok-push.ensures.ok (turn_ok _ _ _ c.loop-index.rows _ _ c.loop-index.invariant.0 (rw (← c.index-values-index.is) at step) c.in_ok-row.ensures),
+      grind (arith, common_steps),
+    )
 
 pub returns-clause-read : goal.returns-clause-read
 returns-clause-read g c = turn_end _ _ c.loop-index.rows c.loop-index.invariant.0 (rows_from_end (g.R.Row.says c.args.root.now) c.args.place (c.loop-index.index + 1) c.args.values.now c.loop-index.index (omega arith))

@@ -15,9 +15,10 @@ returns-in_err-service-clause-read c =
 
 pub loop-index-preserved : goal.loop-index-preserved
 loop-index-preserved c =
-    let step = services_from_drop c.args.root.now c.args.place c.loop-index.room (c.loop-index.index + 1) c.args.values.now c.loop-index.index c.index-values-index.result c.loop-index-test.true in
-    (rw (c.in_ok-push.ensures.ok, c.saturating_sub-room-in-loop-index.ensures, c.len-in-loop-index.ensures) (turn_with _ _ c.loop-index.services c.in_ok-service.service _ (λ row. services_from c.args.root.now c.args.place (c.loop-index.room - length row.registers) (c.loop-index.index + 1 + 1) (items_view (drop (c.loop-index.index + 1) c.args.values.now))) c.loop-index.invariant.0 (rw (← c.index-values-index.is) at step) c.in_ok-service.ensures),
-     grind (arith, common_steps))
+    let step = services_from_drop c.args.root.now c.args.place c.loop-index.room (c.loop-index.index + 1) c.args.values.now c.loop-index.index c.index-values-index.result c.loop-index-test.true in (
+      rw (c.in_ok-push.ensures.ok, c.saturating_sub-room-in-loop-index.ensures, c.len-in-loop-index.ensures) (turn_with _ _ c.loop-index.services c.in_ok-service.service _ (λ row. services_from c.args.root.now c.args.place (c.loop-index.room - length row.registers) (c.loop-index.index + 1 + 1) (items_view (drop (c.loop-index.index + 1) c.args.values.now))) c.loop-index.invariant.0 (rw (← c.index-values-index.is) at step) c.in_ok-service.ensures),
+      grind (arith, common_steps),
+    )
 
 pub returns-clause-read : goal.returns-clause-read
 returns-clause-read c = turn_end _ _ c.loop-index.services c.loop-index.invariant.0 (services_from_end c.args.root.now c.args.place c.loop-index.room (c.loop-index.index + 1) c.args.values.now c.loop-index.index (omega arith))
