@@ -5,8 +5,7 @@ use Rattle.rss_names.specs.declared.service.Key.{Key}
 use Rattle.pipeline_lang.specs.declared.config.Config.{Config}
 use Rattle.pipeline_lang.specs.declared.script.Statement.{Statement}
 use Rattle.pipeline_lang.specs.declared.script.Statement.TheVariants as statement
-use Rattle.pipeline_lang.specs.Config.{script_of, ends_of}
-use Rattle.rss_model.specs.Cursor.{statement_at}
+use Rattle.pipeline_lang.specs.Config.{ends_of, statement_at}
 use Rattle.rss_model.specs.declared.history.How.{How}
 use Rattle.rss_model.specs.declared.history.How.TheVariants.{Exited, Killed, Unavailable}
 use Rattle.rss_wire.specs.declared.messages.Holder.{Holder}
@@ -25,7 +24,7 @@ use Rattle.rss_machine.specs.declared.turn.Enabling.TheVariants.{Never, Always, 
 
 -- the statement that a stage makes next; an exit stands behind the last one
 abbrev pub next_statement : Config → State → ℕ → Statement ℕ Key ℕ ℕ
-next_statement c s n = statement_at (script_of c n) (stage_at s n).cursor.position
+next_statement c s n = statement_at c n (stage_at s n).cursor.position
 
 -- whether a stage can make a statement
 abbrev pub can_make : Config → State → Statement ℕ Key ℕ ℕ → Bool

@@ -1,7 +1,5 @@
 -- Clearing one key after another clears all.
-use Rattle.std.proofs.Common.{◌≡◌, ℕ, suc, zero, ◌+◌, ◌<◌, ◌≤◌, List, [], ◌∷◌, length, map, get_or, set, arith, refl, sym, ap, ◌∙◌}
-use Rattle.std.proofs.lemmas.Grind.{common_steps}
-use Rattle.rss_names.specs.declared.service.Key.{Key}
+use Rattle.std.proofs.Common.{◌≡◌, ℕ, suc, zero, ◌<◌, List, [], ◌∷◌, length, get_or, set, arith, refl, ap}
 use Rattle.rss_tables.specs.Versions.{KeyVersions, unwritten}
 use Rattle.shard_versions.specs.Rows.{RowView, store_of, keys_of, cleared_upto}
 

@@ -1,4 +1,4 @@
-use Rattle.std.proofs.Common.{◌≡◌, ◌∙◌, length, arith}
+use Rattle.std.proofs.Common.{◌∙◌, arith}
 use Rattle.shard_versions.specs.Rows.{store_of}
 use Rattle.shard_versions.proofs.Cleared.{cleared-all, store-length}
 use Rattle.shard_versions.proofs.versions.clear_all.Goals as goal

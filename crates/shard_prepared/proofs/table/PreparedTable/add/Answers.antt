@@ -1,7 +1,6 @@
-use Rattle.std.proofs.Common.{◌≡◌, ◌<◌, ◌≤◌, length, ap, sym, ◌∙◌, arith, Some, None}
-use Rattle.rss_tables.specs.Prepared.{PreparedWriter, prepared_attempts}
+use Rattle.std.proofs.Common.{ap}
 use Rattle.shard_prepared.specs.PreparedView.{PreparedView}
-use Rattle.shard_prepared.proofs.Placed.{added, taken, entry-there, entry-nowhere, entry-taken}
+use Rattle.shard_prepared.proofs.Placed.{added}
 use Rattle.shard_prepared.proofs.table.PreparedTable.add.Goals as goal
 
 pub invariant_of-self : goal.invariant_of-self

@@ -1,4 +1,4 @@
-use Rattle.std.proofs.Common.{◌≡◌, ◌<◌, ◌≤◌, length, ap, sym, arith}
+use Rattle.std.proofs.Common.{◌<◌, ◌≤◌, length, ap, sym, arith}
 use Rattle.rss_tables.specs.Prepared.{prepared_attempts}
 use Rattle.shard_prepared.specs.Kept.{place_of}
 use Rattle.shard_prepared.specs.PreparedView.{PreparedView}

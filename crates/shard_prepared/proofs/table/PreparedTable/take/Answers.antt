@@ -1,8 +1,8 @@
-use Rattle.std.proofs.Common.{◌≡◌, ℕ, ◌<◌, ◌≤◌, length, ap, sym, ◌∙◌, arith, Some, None}
-use Rattle.rss_tables.specs.Prepared.{PreparedWriter, prepared_attempts}
+use Rattle.std.proofs.Common.{ℕ, ◌<◌, ◌≤◌, length, ap, sym, arith}
+use Rattle.rss_tables.specs.Prepared.{prepared_attempts}
 use Rattle.shard_prepared.specs.Kept.{HasMemory, place_of}
 use Rattle.shard_prepared.specs.PreparedView.{PreparedView}
-use Rattle.shard_prepared.proofs.Placed.{added, taken, entry-there, entry-nowhere, entry-taken, attempts-length, if-some}
+use Rattle.shard_prepared.proofs.Placed.{taken, entry-nowhere, entry-taken, attempts-length, if-some}
 use Rattle.shard_prepared.proofs.table.PreparedTable.take.Goals as goal
 
 pub returns-then-place-len-clause-taken : goal.returns-then-place-len-clause-taken
