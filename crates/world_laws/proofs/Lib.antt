@@ -7,3 +7,4 @@ pub mod Readings
 pub mod Later
 pub mod Replies
 pub mod Properly
+pub mod StepsOfTimes

@@ -1,5 +1,5 @@
 -- What holds of every run.
-use Rattle.std.specs.Prelude.{◌≡◌, ℕ, ◌<◌, ◌≤◌, true, List, [], ◌∷◌, ◌++◌, length, Some, None}
+use Rattle.std.specs.Prelude.{◌≡◌, ℕ, ◌<◌, ◌≤◌, ◌+◌, ◌↔◌, true, List, [], ◌∷◌, ◌++◌, length, Some, None}
 use Rattle.std.specs.List.{All}
 use Rattle.truetime.specs.Reading.{Reading, AreConsistent}
 use Rattle.truetime.specs.TrueMoment.{IsTrueMoment, true_moment}
@@ -8,6 +8,7 @@ use Rattle.rss_machine.specs.State.{State}
 use Rattle.rss_machine.specs.Effect.{stepped}
 use Rattle.rss_machine.specs.Refusal.{refusal}
 use Rattle.rss_machine.specs.Run.{run, steps_of, readings_of}
+use Rattle.rss_machine.specs.Times.{step_of_time}
 use Rattle.rss_machine.specs.declared.step.Logged.{Logged}
 use Rattle.rss_machine.specs.declared.step.Step.{Step}
 use Rattle.world_laws.specs.Exchanges.{Exchanges}
@@ -40,6 +41,26 @@ ReadingsAreConsistent =
 abbrev pub MomentsAreTrue : Type 0
 MomentsAreTrue =
     (c : Config) (steps : List Step) (s : State) → run c steps ≡ Some s → (s.moment ≡ true_moment (readings_of steps)) × IsTrueMoment (readings_of steps) (length steps) s.moment
+
+-- the step of a time is one of the run's, or one more than their number, and a greater time has no earlier step
+pub record StepsRise (s : State) : Type 0 where
+  pub first : (time : ℕ) → 1 ≤ step_of_time s time
+  pub last : (time : ℕ) → step_of_time s time ≤ s.steps + 1
+  pub rise : (a b : ℕ) → a ≤ b → step_of_time s a ≤ step_of_time s b
+
+-- from a state of a run to a later one: the step of a time has come at the first exactly where the true moment
+-- there is above the time; where it has come it stays, and where it has not it was one more than the steps
+pub record StepsStay (s later : State) : Type 0 where
+  pub come : (time : ℕ) → step_of_time later time ≤ s.steps ↔ time < s.moment
+  pub stay : (time : ℕ) → step_of_time later time ≤ s.steps → step_of_time s time ≡ step_of_time later time
+  pub ahead : (time : ℕ) → s.steps < step_of_time later time → step_of_time s time ≡ s.steps + 1
+
+abbrev pub TimesHaveSteps : Type 0
+TimesHaveSteps = (c : Config) (steps : List Step) (s : State) → run c steps ≡ Some s → StepsRise s
+
+abbrev pub StepsOfTimesStay : Type 0
+StepsOfTimesStay =
+    (c : Config) (steps more : List Step) (s later : State) → run c steps ≡ Some s → run c (steps ++ more) ≡ Some later → StepsStay s later
 
 -- nothing changes back from a state of a run to a later one
 abbrev pub NothingChangesBack : Type 0

@@ -1,6 +1,6 @@
 //! The laws of runs. They hold no code: each is the contract of a function that does nothing.
 
-ghost use Rattle.world_laws.specs.Laws.{RunsGoOn, RunsAreCounted, LogsGrow, ReadingsAreConsistent, MomentsAreTrue, NothingChangesBack, RepliesFit};
+ghost use Rattle.world_laws.specs.Laws.{RunsGoOn, RunsAreCounted, LogsGrow, ReadingsAreConsistent, MomentsAreTrue, TimesHaveSteps, StepsOfTimesStay, NothingChangesBack, RepliesFit};
 
 /// A run goes on by every step that is not refused.
 #[tactic(auto, using(crate::proofs::Runs::run_more))]
@@ -30,6 +30,20 @@ pub fn readings_are_consistent()
 #[tactic(auto, using(crate::proofs::Readings::moment_run, crate::proofs::Readings::moment_true))]
 pub fn moments_are_true()
     ensures { MomentsAreTrue }
+{}
+
+/// The step of a time, which is the first whose true moment is above it, is a step of the run or one
+/// more than their number, and a greater time has no earlier step.
+#[tactic(auto, using(crate::proofs::StepsOfTimes::steps_rise))]
+pub fn times_have_steps()
+    ensures { TimesHaveSteps }
+{}
+
+/// From one state of a run to a later one: the step of a time has come exactly where the true moment
+/// is above the time, and a step that has come stays.
+#[tactic(auto, using(crate::proofs::StepsOfTimes::steps_stay))]
+pub fn steps_of_times_stay()
+    ensures { StepsOfTimesStay }
 {}
 
 /// From one state of a run to every later one, whatever is lost, repeated or killed between: the

@@ -1,0 +1,6 @@
+use Rattle.plain_script.proofs.EntrySteps.{entry-to, entry-from}
+use Rattle.plain_script.proofs.laws.entries_lead_to_one.Goals as goal
+
+pub returns : goal.returns
+returns c config h stage place e w v =
+    (entry-from config h stage place w v e, entry-to config h stage place w v e)
