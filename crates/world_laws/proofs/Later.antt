@@ -138,6 +138,10 @@ later_steps : (c : Config) (u : State) (steps : List Step) (v s : State) → run
 later_steps c u [] v s e h = subst (Later u) (run_none c v s e) h
 later_steps c u (step ∷ steps) v s e h = let t = run_rest c v step steps s e in later_steps c u steps (stepped c v step) s t.1 (later_step c u v step t.0 h)
 
+-- from any state to one that steps lead to
+pub later_from : (c : Config) (steps : List Step) (u s : State) → run_from c u steps ≡ Some s → Later u s
+later_from c steps u s e = later_steps c u steps u s e (later_same u)
+
 -- from one state of a run to a later one
 pub later_run : (c : Config) (steps more : List Step) (s t : State) → run c steps ≡ Some s → run c (steps ++ more) ≡ Some t → Later s t
 later_run c steps more s t e f = later_steps c s more s t (run_split c steps more s t e f) (later_same s)

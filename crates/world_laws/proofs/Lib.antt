@@ -7,4 +7,9 @@ pub mod Readings
 pub mod Later
 pub mod Replies
 pub mod Properly
+pub mod RequestsProper
 pub mod StepsOfTimes
+pub mod Holders
+pub mod Notes
+pub mod Marked
+pub mod Ascending

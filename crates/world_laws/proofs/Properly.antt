@@ -269,7 +269,7 @@ without-proper (session.Snapshot t) target k = k
 without-proper (session.Settling attempt shards) target k = k
 
 -- an owner turns to what is proper, and sends what is proper
-turning-proper : (c : Config) (s : State) (o : ℕ) (x : Session) (outs : List Out) → session_proper (session_at s o) ≡ true → Turning c s o x outs → (session_proper x ≡ true) × (outs_proper outs ≡ true)
+pub turning-proper : (c : Config) (s : State) (o : ℕ) (x : Session) (outs : List Out) → session_proper (session_at s o) ≡ true → Turning c s o x outs → (session_proper x ≡ true) × (outs_proper outs ≡ true)
 turning-proper c s o _ _ p idles = (refl, refl)
 turning-proper c s o _ _ p (loses_one target) = (without-proper (session_at s o) target p, refl)
 turning-proper c s o _ _ p (fixes_first id deps w) = let k = deps-kept id deps in (k, round-proper (session_for c w o (work.Fix (deps_of id deps)) id) k)

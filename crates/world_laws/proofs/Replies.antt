@@ -50,10 +50,10 @@ sound_same m x z y w a b e d h = record {
   fits = λ q r i j. subst (λ (v : Envelope). Fits v.target q r) (sym a) (h.fits q r (sym b ∙ i) (sym d ∙ j));
 }
 
-meets_envelope : (net : List Message) (m : ℕ) (f : Fate) (k : ℕ) → (message_at (meets net m f) k).envelope ≡ (message_at net k).envelope
+pub meets_envelope : (net : List Message) (m : ℕ) (f : Fate) (k : ℕ) → (message_at (meets net m f) k).envelope ≡ (message_at net k).envelope
 meets_envelope net m f k = grind (arith, looks)
 
-meets_body : (net : List Message) (m : ℕ) (f : Fate) (k : ℕ) → (message_at (meets net m f) k).body ≡ (message_at net k).body
+pub meets_body : (net : List Message) (m : ℕ) (f : Fate) (k : ℕ) → (message_at (meets net m f) k).body ≡ (message_at net k).body
 meets_body net m f k = grind (arith, looks)
 
 -- a message meets a fate
@@ -126,11 +126,11 @@ sound_answers net m q r z l b f h =
         subst (λ (v : Reply). Fits (message_at net m).envelope.target p v) d (subst (λ (v : Request). Fits (message_at net m).envelope.target v r) e f)
 
 -- the net is sound, and its place 0 is taken
-record Sound (s : State) : Type 0 where
-  first : 0 < length s.net
-  sound : Exchanges s.net
+pub record Sound (s : State) : Type 0 where
+  pub first : 0 < length s.net
+  pub sound : Exchanges s.net
 
-sound_keeps : StoreKeeps Sound
+pub sound_keeps : StoreKeeps Sound
 sound_keeps = record {
   fates = λ s m f h. record { first = grind (arith, looks, h.first); sound = sound_meets s.net m f h.sound };
   sends = λ s o out h. record { first = grind (arith, looks, h.first); sound = sound_asks s.net o (owner_at s o).stage out.target out.request h.first h.sound };
@@ -154,7 +154,7 @@ sound_from : (c : Config) (steps : List Step) (u s : State) → run_from c u ste
 sound_from c [] u s e h = subst Sound (run_none c u s e) h
 sound_from c (step ∷ steps) u s e h = let t = run_rest c u step steps s e in sound_from c steps (stepped c u step) s t.1 (sound_step c u step t.0 h)
 
-sound_start : (c : Config) → Sound (start c)
+pub sound_start : (c : Config) → Sound (start c)
 sound_start c = record { first = omega arith; sound = λ m z l. absurd (omega (arith, z, l)) }
 
 -- every message of a run is sound

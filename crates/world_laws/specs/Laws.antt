@@ -3,16 +3,21 @@ use Rattle.std.specs.Prelude.{◌≡◌, ℕ, ◌<◌, ◌≤◌, ◌+◌, ◌�
 use Rattle.std.specs.List.{All}
 use Rattle.truetime.specs.Reading.{Reading, AreConsistent}
 use Rattle.truetime.specs.TrueMoment.{IsTrueMoment, true_moment}
+use Rattle.rss_names.specs.declared.service.Key.{Key}
+use Rattle.carstamps.specs.declared.carstamp.Carstamp.{Carstamp}
 use Rattle.pipeline_lang.specs.declared.config.Config.{Config}
-use Rattle.rss_machine.specs.State.{State}
+use Rattle.rss_machine.specs.State.{State, marks_at}
 use Rattle.rss_machine.specs.Effect.{stepped}
 use Rattle.rss_machine.specs.Refusal.{refusal}
 use Rattle.rss_machine.specs.Run.{run, steps_of, readings_of}
-use Rattle.rss_machine.specs.Times.{step_of_time}
+use Rattle.rss_machine.specs.Times.{step_of_time, step_of_stamp, marked_step}
 use Rattle.rss_machine.specs.declared.step.Logged.{Logged}
 use Rattle.rss_machine.specs.declared.step.Step.{Step}
+use Rattle.world_laws.specs.Alone.{IsAlone}
+use Rattle.world_laws.specs.Ascending.{Ascending}
 use Rattle.world_laws.specs.Exchanges.{Exchanges}
 use Rattle.world_laws.specs.Later.{Later}
+use Rattle.world_laws.specs.Proper.{AreProper}
 
 -- a run goes on by a step that is not refused
 abbrev pub RunsGoOn : Type 0
@@ -70,3 +75,16 @@ NothingChangesBack =
 -- every message of a run is sound
 abbrev pub RepliesFit : Type 0
 RepliesFit = (c : Config) (steps : List Step) (s : State) → run c steps ≡ Some s → Exchanges s.net
+
+-- every message of a run is proper
+abbrev pub RequestsAreProper : Type 0
+RequestsAreProper = (c : Config) (steps : List Step) (s : State) → run c steps ≡ Some s → AreProper s
+
+-- the notes of a state tell the step of every stamp of a register whose number no other one that is written has
+abbrev pub MarksTellSteps : Type 0
+MarksTellSteps =
+    (c : Config) (key : Key) (stamp : Carstamp) (steps : List Step) (s : State) → key.index < length c.registers → run c steps ≡ Some s → IsAlone key s.net → step_of_stamp c steps key stamp ≡ marked_step s key stamp
+
+-- the notes of each register ascend
+abbrev pub MarksAscend : Type 0
+MarksAscend = (c : Config) (steps : List Step) (s : State) (key : Key) → run c steps ≡ Some s → Ascending s.steps (marks_at s key)

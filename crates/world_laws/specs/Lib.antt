@@ -1,4 +1,6 @@
 pub mod Later
 pub mod Exchanges
 pub mod Proper
+pub mod Alone
+pub mod Ascending
 pub mod Laws

@@ -1,6 +1,6 @@
 //! The laws of runs. They hold no code: each is the contract of a function that does nothing.
 
-ghost use Rattle.world_laws.specs.Laws.{RunsGoOn, RunsAreCounted, LogsGrow, ReadingsAreConsistent, MomentsAreTrue, TimesHaveSteps, StepsOfTimesStay, NothingChangesBack, RepliesFit};
+ghost use Rattle.world_laws.specs.Laws.{RunsGoOn, RunsAreCounted, LogsGrow, ReadingsAreConsistent, MomentsAreTrue, TimesHaveSteps, StepsOfTimesStay, NothingChangesBack, RepliesFit, RequestsAreProper, MarksTellSteps, MarksAscend};
 
 /// A run goes on by every step that is not refused.
 #[tactic(auto, using(crate::proofs::Runs::run_more))]
@@ -58,4 +58,25 @@ pub fn nothing_changes_back()
 /// gives to that request.
 pub fn replies_fit()
     ensures { RepliesFit }
+{}
+
+/// In every run a replica is asked about registers of its own service alone.
+#[tactic(auto, using(crate::proofs::RequestsProper::proper_run))]
+pub fn requests_are_proper()
+    ensures { RequestsAreProper }
+{}
+
+/// The noted step of a stamp is the first step after which a majority of the register's replicas
+/// holds that stamp or a greater one, for each register whose number no other one that is written
+/// has.
+#[tactic(auto, using(crate::proofs::Marked::marks_tell))]
+pub fn marks_tell_steps()
+    ensures { MarksTellSteps }
+{}
+
+/// In every run the notes of a register are of ever greater stamps, none of an earlier step than one
+/// before it, and each of a step of the run.
+#[tactic(auto, using(crate::proofs::Ascending::marks_ascend))]
+pub fn marks_ascend()
+    ensures { MarksAscend }
 {}
