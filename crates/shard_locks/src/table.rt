@@ -207,3 +207,53 @@ fn settle(
     let others = mem::replace(waiting, Vec::new(alloc));
     LockAnswer::Wait(Seq::from_vec(others))
 }
+
+#[cfg(test)]
+mod tests {
+    use super::*;
+    use rss_names::ServiceId;
+    use std::test::Fail;
+
+    const X: Key = Key {
+        service: ServiceId::Txn(1),
+        index: 0,
+    };
+
+    // An attempt asks a table whose coordinator it names, with room for that.
+    fn asked(
+        table: &mut LockTable,
+        wounded: &mut Vec<Attempt>,
+        call: u32,
+        reads: &[Key],
+        writes: &[Key],
+    ) -> Result<LockAnswer, Fail> {
+        let coordinator = ShardId::new(1).ok_or(AllocError)?;
+        table.make_room(reads.len() + writes.len())?;
+        wounded.clear();
+        wounded.reserve(table.holders())?;
+        let attempt = Attempt { call, k: 1 };
+        Ok(table.ask(attempt, coordinator, reads, writes, &[], wounded))
+    }
+
+    #[test]
+    fn wounds_the_younger_and_lets_the_older_be(rt: HostRuntime) -> Result<(), Fail> {
+        let alloc = rt.alloc();
+        let mut table = LockTable::new(alloc);
+        let mut wounded = Vec::new(alloc);
+        let taken = asked(&mut table, &mut wounded, 2, &[], &[X])?;
+        assert_eq!(rt; taken, LockAnswer::Granted);
+        let wounds = asked(&mut table, &mut wounded, 1, &[X], &[])?;
+        assert_eq!(rt; wounds, LockAnswer::Granted);
+        assert_eq!(rt; wounded.first().copied(), Some(Attempt { call: 2, k: 1 }));
+        let first = Holder {
+            attempt: Attempt { call: 1, k: 1 },
+            coordinator: ShardId::new(1).ok_or(AllocError)?,
+        };
+        let waits = asked(&mut table, &mut wounded, 3, &[], &[X])?;
+        let others = Seq::from_vec(Vec::from_slice(alloc, &[first])?);
+        assert_eq!(rt; waits, LockAnswer::Wait(others));
+        let again = asked(&mut table, &mut wounded, 2, &[], &[X])?;
+        assert_eq!(rt; again, LockAnswer::WoundedSelf);
+        Ok(())
+    }
+}
