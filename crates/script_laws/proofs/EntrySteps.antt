@@ -23,9 +23,9 @@ use Rattle.rss_model.specs.CallStatement.{op_of_statement}
 use Rattle.rss_model.specs.Walk.{Walk, Mode, unborn, ready, in_call, over, is_alive, IsNext, next_given, past_statement, after_put, after_close, after_reply, after_wait, over_as}
 use Rattle.rss_model.specs.Given.{GivenAbove}
 use Rattle.rss_model.specs.Walked.{Makes, birth, begin_call, end_call, spawn, put, close, wait, exit, death, last_give}
-use Rattle.plain_script.specs.SameOps.{same_op}
-use Rattle.plain_script.specs.Entries.{same_token, gives, gave, next_in, next_statement, is_op, begun, ended, gave_at, paid, given_in, born, waited, got, exited, ended_as, entry_step}
-use Rattle.plain_script.proofs.SameOperations.{op-Decides}
+use Rattle.script_laws.specs.SameOps.{same_op}
+use Rattle.script_laws.specs.Entries.{same_token, gives, gave, next_in, next_statement, is_op, begun, ended, gave_at, paid, given_in, born, waited, got, exited, ended_as, entry_step}
+use Rattle.script_laws.proofs.SameOperations.{op-Decides}
 
 pub token-Decides : (a b : Token) → Decides (same_token a b) (a ≡ b)
 token-Decides (token.Spawn s) (token.Spawn t) =

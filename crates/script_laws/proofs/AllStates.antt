@@ -7,13 +7,13 @@ use Rattle.rss_model.specs.History.{entry_at}
 use Rattle.rss_model.specs.Stages.{stage_at}
 use Rattle.rss_model.specs.Walk.{Walk, first_walk}
 use Rattle.rss_model.specs.Walked.{Walked, starts, passes, silently, makes, takes}
-use Rattle.plain_script.specs.Steps.{silent_step}
-use Rattle.plain_script.specs.Entries.{entry_step}
-use Rattle.plain_script.specs.Paths.{Path, stays, goes}
-use Rattle.plain_script.specs.States.{AreAll, Leads, by_entry, by_take, Behind, passed, led}
-use Rattle.plain_script.proofs.SilentSteps.{silent-to, silent-from}
-use Rattle.plain_script.proofs.EntrySteps.{entry-to, entry-from}
-use Rattle.plain_script.proofs.TakeSteps.{take-to, take-from}
+use Rattle.script_laws.specs.Steps.{silent_step}
+use Rattle.script_laws.specs.Entries.{entry_step}
+use Rattle.script_laws.specs.Paths.{Path, stays, goes}
+use Rattle.script_laws.specs.States.{AreAll, Leads, by_entry, by_take, Behind, passed, led}
+use Rattle.script_laws.proofs.SilentSteps.{silent-to, silent-from}
+use Rattle.script_laws.proofs.EntrySteps.{entry-to, entry-from}
+use Rattle.script_laws.proofs.TakeSteps.{take-to, take-from}
 
 module _ (config : Config) (h : List Entry) (stage : ℕ) where
   -- a path goes on by one more silent step

@@ -1,5 +1,5 @@
-use Rattle.plain_script.proofs.TakeSteps.{take-to, take-from}
-use Rattle.plain_script.proofs.laws.takes_are_of_what_was_told.Goals as goal
+use Rattle.script_laws.proofs.TakeSteps.{take-to, take-from}
+use Rattle.script_laws.proofs.laws.takes_are_of_what_was_told.Goals as goal
 
 pub returns : goal.returns
 returns c config h stage pipe number giving w v = (

@@ -9,8 +9,8 @@ use Rattle.rss_model.specs.declared.history.Token.TheVariants as token
 use Rattle.rss_model.specs.Formula.{formula_value}
 use Rattle.rss_model.specs.Cursor.{NumberedStatement}
 use Rattle.rss_model.specs.Walk.{Walk, Mode, unborn, ready, in_call, over, next_given, after_take, after_chunk}
-use Rattle.plain_script.specs.Steps.{silent_step}
-use Rattle.plain_script.specs.Entries.{same_token, next_statement}
+use Rattle.script_laws.specs.Steps.{silent_step}
+use Rattle.script_laws.specs.Entries.{same_token, next_statement}
 
 -- a walk can come to a state without an entry
 pub data Path (config : Config) (h : List Entry) (stage : ℕ) (to : Walk) : Walk → Type 0 where

@@ -17,7 +17,7 @@ use Rattle.rss_model.specs.Scripts.{giver_of}
 use Rattle.rss_model.specs.Walk.{Walk, Mode, unborn, ready, in_call, over, IsNext, after_take, after_wait}
 use Rattle.rss_model.specs.Given.{DiedUnfenced, IsCutOff}
 use Rattle.rss_model.specs.Walked.{Silent, local, fence, take_nothing, wait_in_vain}
-use Rattle.plain_script.specs.Steps.{gives_exit, gave_exit, is_dead, gives_past, gave_past, is_dry, silent_at, silent_in, silent_step}
+use Rattle.script_laws.specs.Steps.{gives_exit, gave_exit, is_dead, gives_past, gave_past, is_dry, silent_at, silent_in, silent_step}
 
 itself : (b : Bool) → Decides b (b ≡ true)
 itself b = (λ t. t, λ t. t)

@@ -15,7 +15,7 @@ use Rattle.rss_model.specs.Operation.{values_of}
 use Rattle.rss_model.specs.Stages.{wait_status}
 use Rattle.rss_model.specs.Cursor.{NumberedStatement}
 use Rattle.rss_model.specs.CallStatement.{op_of_statement}
-use Rattle.plain_script.specs.SameOps.{same_op}
+use Rattle.script_laws.specs.SameOps.{same_op}
 use Rattle.rss_model.specs.Walk.{Walk, Mode, unborn, ready, in_call, over, is_alive, next_given, past_statement, after_put, after_close, after_reply, after_wait, over_as}
 
 -- whether two tokens are the same

@@ -15,7 +15,7 @@ use Rattle.pipeline_lang.specs.declared.script.Compare.{Compare}
 use Rattle.pipeline_lang.specs.declared.script.Compare.TheVariants.{Equal, Less}
 use Rattle.rss_model.specs.declared.op.Op.{Op}
 use Rattle.rss_model.specs.declared.op.Op.TheVariants.{Read, Write, Snap, Txn}
-use Rattle.plain_script.specs.SameOps.{same_term, same_expr, same_compare, same_guard, same_keys, same_writes, same_op}
+use Rattle.script_laws.specs.SameOps.{same_term, same_expr, same_compare, same_guard, same_keys, same_writes, same_op}
 
 term-Decides : (a b : Term ℕ) → Decides (same_term a b) (a ≡ b)
 term-Decides (Number m) (Number n) = Decides-like _ (λ e. ap Number e) (λ e. cc) (Decides-eqb m n)

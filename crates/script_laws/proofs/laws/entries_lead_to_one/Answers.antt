@@ -1,5 +1,5 @@
-use Rattle.plain_script.proofs.EntrySteps.{entry-to, entry-from}
-use Rattle.plain_script.proofs.laws.entries_lead_to_one.Goals as goal
+use Rattle.script_laws.proofs.EntrySteps.{entry-to, entry-from}
+use Rattle.script_laws.proofs.laws.entries_lead_to_one.Goals as goal
 
 pub returns : goal.returns
 returns c config h stage place e w v =

@@ -13,9 +13,9 @@ use Rattle.rss_model.specs.Scripts.{giver_of}
 use Rattle.rss_model.specs.Walk.{Walk, Mode, unborn, ready, in_call, over, IsNext, next_given, after_chunk}
 use Rattle.rss_model.specs.Given.{Puts, Marks, by_close, when_over}
 use Rattle.rss_model.specs.Walked.{Takes, chunk, end_mark}
-use Rattle.plain_script.specs.Entries.{same_token, next_statement}
-use Rattle.plain_script.specs.Paths.{tells_at, tells_in, tells, took, takes_at, take_step}
-use Rattle.plain_script.proofs.EntrySteps.{token-Decides, taken_if, chosen_if, next-to, next-from}
+use Rattle.script_laws.specs.Entries.{same_token, next_statement}
+use Rattle.script_laws.specs.Paths.{tells_at, tells_in, tells, took, takes_at, take_step}
+use Rattle.script_laws.proofs.EntrySteps.{token-Decides, taken_if, chosen_if, next-to, next-from}
 
 -- a giver tells this where it stands
 abbrev Tells : Config → ℕ → Walk → ℕ → ℕ → Option ℕ → Type 0

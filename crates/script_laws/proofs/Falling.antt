@@ -12,8 +12,8 @@ use Rattle.rss_model.specs.declared.history.Entry.{Entry}
 use Rattle.rss_model.specs.Formula.{guard_value}
 use Rattle.rss_model.specs.Cursor.{NumberedStatement, Block, Cursor, after_local, cursor_in_block, cursor_past_block, cursor_after_end, next_cursor}
 use Rattle.rss_model.specs.Walk.{Walk, Mode, unborn, ready, in_call, over, past_statement, after_wait, after_take}
-use Rattle.plain_script.specs.Steps.{silent_at, silent_in, silent_step, is_dead, is_dry}
-use Rattle.plain_script.specs.Weights.{turns_of, most_turns, weight, held, weigh}
+use Rattle.script_laws.specs.Steps.{silent_at, silent_in, silent_step, is_dead, is_dry}
+use Rattle.script_laws.specs.Weights.{turns_of, most_turns, weight, held, weigh}
 
 -- more statements weigh more
 weight_grows : (most m n : ℕ) → m ≤ n → weight most m ≤ weight most n

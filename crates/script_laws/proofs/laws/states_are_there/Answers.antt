@@ -1,5 +1,5 @@
-use Rattle.plain_script.proofs.AllStates.{all_first, all_behind}
-use Rattle.plain_script.proofs.laws.states_are_there.Goals as goal
+use Rattle.script_laws.proofs.AllStates.{all_first, all_behind}
+use Rattle.script_laws.proofs.laws.states_are_there.Goals as goal
 
 pub returns-clause-first : goal.returns-clause-first
 returns-clause-first c config h stage = all_first config h stage

@@ -9,8 +9,8 @@ use Rattle.rss_model.specs.Stages.{stage_at}
 use Rattle.rss_model.specs.Scripts.{giver_of}
 use Rattle.rss_model.specs.Walk.{Walk}
 use Rattle.rss_model.specs.Walked.{Walked}
-use Rattle.plain_script.specs.Entries.{entry_step}
-use Rattle.plain_script.specs.Paths.{Path, tells, take_step}
+use Rattle.script_laws.specs.Entries.{entry_step}
+use Rattle.script_laws.specs.Paths.{Path, tells, take_step}
 
 -- a number of a pipe that was told above a place, to be this value or the end mark
 pub record IsTold (config : Config) (h : List Entry) (n pipe number : ℕ) (value : Option ℕ) : Type 0 where

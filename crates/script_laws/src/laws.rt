@@ -7,11 +7,11 @@ ghost use Rattle.rss_model.specs.declared.history.Entry.{Entry};
 ghost use Rattle.rss_model.specs.Walk.{Walk, first_walk};
 ghost use Rattle.rss_model.specs.Walked.{Silent, Makes, Takes};
 ghost use Rattle.rss_model.specs.Scripts.{giver_of};
-ghost use Rattle.plain_script.specs.Steps.{silent_step};
-ghost use Rattle.plain_script.specs.Entries.{entry_step};
-ghost use Rattle.plain_script.specs.Weights.{weigh};
-ghost use Rattle.plain_script.specs.Paths.{tells, take_step};
-ghost use Rattle.plain_script.specs.States.{AreAll, Behind};
+ghost use Rattle.script_laws.specs.Steps.{silent_step};
+ghost use Rattle.script_laws.specs.Entries.{entry_step};
+ghost use Rattle.script_laws.specs.Weights.{weigh};
+ghost use Rattle.script_laws.specs.Paths.{tells, take_step};
+ghost use Rattle.script_laws.specs.States.{AreAll, Behind};
 
 /// Without an entry a walk comes to one state at most, which the step function gives.
 pub fn silent_steps_are_one()

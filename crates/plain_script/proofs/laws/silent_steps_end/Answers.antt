@@ -1,6 +1,0 @@
-use Rattle.plain_script.proofs.SilentSteps.{silent-from}
-use Rattle.plain_script.proofs.Falling.{silent_falls}
-use Rattle.plain_script.proofs.laws.silent_steps_end.Goals as goal
-
-pub returns : goal.returns
-returns c config h stage w v s = silent_falls config h stage w v (silent-from config h stage w v s)
