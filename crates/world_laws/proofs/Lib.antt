@@ -6,8 +6,10 @@ pub mod Clock
 pub mod Readings
 pub mod Later
 pub mod Replies
+pub mod ShardRequests
 pub mod Properly
 pub mod RequestsProper
+pub mod StoresOwn
 pub mod StepsOfTimes
 pub mod Holders
 pub mod Notes

@@ -23,6 +23,7 @@ use Rattle.rss_tables.specs.declared.register_session.RegPhase.{RegPhase}
 use Rattle.rss_tables.specs.declared.register_session.RegPhase.TheVariants as phase
 use Rattle.rss_tables.specs.declared.register_session.RegWork.{RegWork}
 use Rattle.rss_tables.specs.declared.register_session.RegWork.TheVariants as work
+use Rattle.world_laws.proofs.ShardRequests.{all_outs, lines-fine, snap-lines-fine, decision-fine, txn-fine, passed-fine, snap-fine, woken-fine}
 use Rattle.world_laws.specs.Proper.{registers_of, are_kept_by, is_proper, work_registers}
 use Rattle.std.specs.Prelude.{not, nat_lt}
 use Rattle.std.proofs.lemmas.Bool.{and_parts}
@@ -90,7 +91,7 @@ phase-proper id replica call (work.Write key value) (phase.Done end) r k e = gri
 
 -- whether all requests that are sent are proper
 abbrev pub outs_proper : List Out → Bool
-outs_proper outs = list_all (λ (out : Out). is_proper out.target out.request) outs
+outs_proper outs = all_outs is_proper outs
 
 requests-proper : (id : ServiceId) (q : Option Request) (cut : List Bool) (left from : ℕ) → ((replica : ℕ) (r : Request) → q ≡ Some r → is_proper (Replica id replica) r ≡ true) → outs_proper (awaited (requests_from id q from cut left)) ≡ true
 requests-proper id None cut left from h = refl
@@ -103,135 +104,6 @@ requests-proper id (Some r) cut (suc left) from h =
 -- a round of a session asks about registers of its service alone, where its work does
 pub round-proper : (r : RegSession) → are_kept_by r.service (work_registers r.work) ≡ true → outs_proper (awaited (round_requests r)) ≡ true
 round-proper r k = requests-proper r.service (phase_request r.call r.work r.phase) r.round.cut r.round.replicas 1 (λ replica q e. phase-proper r.service replica r.call r.work r.phase q k e)
-
--- requests to shards are proper
-lines-proper : (t : TxnSession) (lines : List Line) → outs_proper (asks_lines t lines) ≡ true
-lines-proper t [] = refl
-lines-proper t (l ∷ lines) = lines-proper t lines
-
-snap-lines-proper : (t : SnapSession) (lines : List Line) → outs_proper (snap_asks t lines) ≡ true
-snap-lines-proper t [] = refl
-snap-lines-proper t (l ∷ lines) = snap-lines-proper t lines
-
-decision-proper : (a : Attempt) (o : Outcome) (shards : List ℕ) → outs_proper (tells_decision a o shards) ≡ true
-decision-proper a o [] = refl
-decision-proper a o (shard ∷ shards) = decision-proper a o shards
-
-behind-proper : (xs ys : List Out) → outs_proper xs ≡ true → outs_proper ys ≡ true → outs_proper (xs ++ ys) ≡ true
-behind-proper [] ys e f = f
-behind-proper (x ∷ xs) ys e f =
-    let p = and_parts (is_proper x.target x.request) (outs_proper xs) e in
-    let r = behind-proper xs ys p.1 f in
-    let q = p.0 in
-    grind (arith, common_steps, q, r)
-
-blocked-proper : (shard : ℕ) (holders : List Holder) → outs_proper (blocked_outs shard holders) ≡ true
-blocked-proper shard [] = refl
-blocked-proper shard (h ∷ holders) = refl
-
-resolving-proper : (shard : ℕ) (x : LineState) (o : Outcome) → outs_proper (resolving_outs shard x o) ≡ true
-resolving-proper shard (line.Inquiring h) o = refl
-resolving-proper shard line.Awaiting o = refl
-resolving-proper shard line.Answered o = refl
-resolving-proper shard (line.Resolving h f) o = refl
-resolving-proper shard (line.Asleep h) o = refl
-resolving-proper shard line.Dropped o = refl
-
-woken-proper : (shard : ℕ) (x : LineState) → outs_proper (woken_outs shard x) ≡ true
-woken-proper shard (line.Asleep h) = refl
-woken-proper shard line.Awaiting = refl
-woken-proper shard line.Answered = refl
-woken-proper shard (line.Inquiring h) = refl
-woken-proper shard (line.Resolving h f) = refl
-woken-proper shard line.Dropped = refl
-
-free-proper : (t : TxnSession) (time : ℕ) (others : List Line) → outs_proper (goes_to_free t time others).outs ≡ true
-free-proper t time [] = refl
-free-proper t time (l ∷ others) = lines-proper (record t { phase = txnphase.Freeing time; lines = map (λ (m : Line). if leads t m then m else in_state m line.Awaiting) t.lines }) others
-
-locked-proper : (t : TxnSession) (at : Reading) → outs_proper (is_locked t at).outs ≡ true
-locked-proper t at =
-    cond_both (guard_of t.guard (values_shown t)) (goes_to_prepare t at) _ (λ (u : Turn TxnSession). outs_proper u.outs ≡ true)
-    (λ e. lines-proper (record t { phase = txnphase.Preparing; earliest_end = at.latest + t.margin; lines = all_awaiting t.lines }) (all_awaiting t.lines))
-    (λ e. free-proper t (failing_time t at) (filter (λ (l : Line). not (leads t l)) t.lines))
-
-ends-proper : (t : TxnSession) (at : Reading) (p : TxnPhase) → outs_proper (phase_ends t at p).outs ≡ true
-ends-proper t at txnphase.Locking = locked-proper t at
-ends-proper t at txnphase.Preparing = refl
-ends-proper t at (txnphase.Freeing time) = refl
-ends-proper t at (txnphase.FreeingLast time) = refl
-ends-proper t at (txnphase.Deciding time) = refl
-ends-proper t at (txnphase.Waiting time) = refl
-ends-proper t at txnphase.Undoing = refl
-ends-proper t at (txnphase.Committed time) = refl
-ends-proper t at (txnphase.Failed time) = refl
-
-told-proper : (t : TxnSession) (at : Reading) (l : Line) → outs_proper (is_told t at l).outs ≡ true
-told-proper t at l =
-    let u = record t { lines = with_line t.lines (in_state l line.Answered) } in
-    cond_both (is_phase_done u u.phase) (phase_ends u at u.phase) (quiet u) (λ (v : Turn TxnSession). outs_proper v.outs ≡ true) (λ e. ends-proper u at u.phase) (λ e. refl)
-
-decided-proper : (t : TxnSession) (at : Reading) (o : Outcome) → outs_proper (is_decided t at o).outs ≡ true
-decided-proper t at (outcome.Committed time) =
-    cond_both (nat_lt (wait_of t time) at.earliest) (is_committed t time) _ (λ (v : Turn TxnSession). outs_proper v.outs ≡ true)
-    (λ e. decision-proper (attempt_of t) (outcome.Committed time) (shards_of t.lines)) (λ e. refl)
-decided-proper t at outcome.Aborted =
-    let u = record t { k = t.k + 1; phase = txnphase.Locking; lines = map (λ (l : Line). record l { state = line.Awaiting; shown = []; prepare_time = 0 }) t.lines } in
-    behind-proper (tells_decision (attempt_of t) outcome.Aborted (shards_of t.lines)) (asks_lines u u.lines) (decision-proper (attempt_of t) outcome.Aborted (shards_of t.lines)) (lines-proper u u.lines)
-
-txn-proper : (t : TxnSession) (l : Line) (at : Reading) (r : Reply) → outs_proper (txn_hears t l at r).outs ≡ true
-txn-proper t l at (reply.Granted shown) = told-proper t at (record l { shown = shown })
-txn-proper t l at (reply.Prepared time) = told-proper t at (record l { prepare_time = time })
-txn-proper t l at reply.Released = told-proper t at l
-txn-proper t l at reply.Wounded = refl
-txn-proper t l at (reply.Decided o) = decided-proper t at o
-txn-proper t l at (reply.Wait holders) = blocked-proper l.shard holders
-txn-proper t l at (reply.Blocked holders) = blocked-proper l.shard holders
-txn-proper t l at (reply.Outcome o) = resolving-proper l.shard l.state o
-txn-proper t l at reply.Open = refl
-txn-proper t l at reply.Done = refl
-txn-proper t l at (reply.Values versions skipped) = refl
-txn-proper t l at reply.Fixed = refl
-txn-proper t l at (reply.Held value stamp writer) = refl
-txn-proper t l at reply.Stored = refl
-
-passed-proper : (t : TxnSession) (p : TxnPhase) → outs_proper (txn_passes t p).outs ≡ true
-passed-proper t (txnphase.Waiting time) = decision-proper (attempt_of t) (outcome.Committed time) (shards_of t.lines)
-passed-proper t txnphase.Locking = refl
-passed-proper t txnphase.Preparing = refl
-passed-proper t (txnphase.Freeing time) = refl
-passed-proper t (txnphase.FreeingLast time) = refl
-passed-proper t (txnphase.Deciding time) = refl
-passed-proper t txnphase.Undoing = refl
-passed-proper t (txnphase.Committed time) = refl
-passed-proper t (txnphase.Failed time) = refl
-
-second-proper : (t : SnapSession) (time : ℕ) (again : List Line) → outs_proper (second_round t time again).outs ≡ true
-second-proper t time [] = refl
-second-proper t time (l ∷ again) = snap-lines-proper (record t { phase = snapphase.Second time; lines = asked_again time t.lines }) again
-
-snap-ends-proper : (t : SnapSession) (p : SnapPhase) → outs_proper (snap_phase_ends t p).outs ≡ true
-snap-ends-proper t (snapphase.First read_time) = second-proper t (snapshot_time t) (filter (must_ask_again (snapshot_time t)) t.lines)
-snap-ends-proper t (snapphase.Second time) = refl
-snap-ends-proper t (snapphase.Done time) = refl
-
-snap-proper : (t : SnapSession) (l : Line) (r : Reply) → outs_proper (snap_hears t l r).outs ≡ true
-snap-proper t l (reply.Values versions skipped) =
-    let u = record t { lines = with_line t.lines (in_state (record l { shown = versions; skipped = skipped }) line.Answered) } in
-    cond_both (all_answered u.lines) (snap_phase_ends u u.phase) (quiet u) (λ (v : Turn SnapSession). outs_proper v.outs ≡ true) (λ e. snap-ends-proper u u.phase) (λ e. refl)
-snap-proper t l (reply.Wait holders) = blocked-proper l.shard holders
-snap-proper t l (reply.Blocked holders) = blocked-proper l.shard holders
-snap-proper t l (reply.Outcome o) = resolving-proper l.shard l.state o
-snap-proper t l reply.Open = refl
-snap-proper t l reply.Done = refl
-snap-proper t l (reply.Granted shown) = refl
-snap-proper t l (reply.Prepared time) = refl
-snap-proper t l reply.Released = refl
-snap-proper t l reply.Wounded = refl
-snap-proper t l (reply.Decided o) = refl
-snap-proper t l reply.Fixed = refl
-snap-proper t l (reply.Held value stamp writer) = refl
-snap-proper t l reply.Stored = refl
 
 -- what an owner has under way asks about registers of its service alone
 abbrev pub session_proper : Session → Bool
@@ -268,6 +140,10 @@ without-proper (session.Transaction t) target k = k
 without-proper (session.Snapshot t) target k = k
 without-proper (session.Settling attempt shards) target k = k
 
+-- requests to shards are proper
+shard-proper : (n : ℕ) (r : Request) → is_proper (Shard n) r ≡ true
+shard-proper n r = refl
+
 -- an owner turns to what is proper, and sends what is proper
 pub turning-proper : (c : Config) (s : State) (o : ℕ) (x : Session) (outs : List Out) → session_proper (session_at s o) ≡ true → Turning c s o x outs → (session_proper x ≡ true) × (outs_proper outs ≡ true)
 turning-proper c s o _ _ p idles = (refl, refl)
@@ -278,12 +154,12 @@ turning-proper c s o _ _ p (stamps_register w key value) = let k = one-kept key.
 turning-proper c s o _ _ p (fix_hears f from r e) = (after-kept f from r (subst (λ (x : Session). session_proper x ≡ true) e p), refl)
 turning-proper c s o _ _ p (register_hears f from r e) = (after-kept f from r (subst (λ (x : Session). session_proper x ≡ true) e p), refl)
 turning-proper c s o _ _ p (register_stores f from r e a) = let k = after-kept f from r (subst (λ (x : Session). session_proper x ≡ true) e p) in (k, round-proper (session_after f from r) k)
-turning-proper c s o _ _ p (snapshot_begins keys least at) = (refl, snap-lines-proper (opening_snapshot (home_of c) o keys least at) (opening_snapshot (home_of c) o keys least at).lines)
-turning-proper c s o _ _ p (txn_begins reads guard writes least margin) = let t = opening_txn (home_of c) o reads guard writes least margin in (refl, lines-proper t t.lines)
-turning-proper c s o _ _ p (txn_heard t l at r e) = (refl, txn-proper t l at r)
-turning-proper c s o _ _ p (txn_woken t l e) = (refl, woken-proper l.shard l.state)
-turning-proper c s o _ _ p (txn_passed t e) = (refl, passed-proper t t.phase)
-turning-proper c s o _ _ p (snap_heard t l r e) = (refl, snap-proper t l r)
-turning-proper c s o _ _ p (snap_woken t l e) = (refl, woken-proper l.shard l.state)
+turning-proper c s o _ _ p (snapshot_begins keys least at) = (refl, snap-lines-fine is_proper shard-proper (opening_snapshot (home_of c) o keys least at) (opening_snapshot (home_of c) o keys least at).lines)
+turning-proper c s o _ _ p (txn_begins reads guard writes least margin) = let t = opening_txn (home_of c) o reads guard writes least margin in (refl, lines-fine is_proper shard-proper t t.lines)
+turning-proper c s o _ _ p (txn_heard t l at r e) = (refl, txn-fine is_proper shard-proper t l at r)
+turning-proper c s o _ _ p (txn_woken t l e) = (refl, woken-fine is_proper shard-proper l.shard l.state)
+turning-proper c s o _ _ p (txn_passed t e) = (refl, passed-fine is_proper shard-proper t t.phase)
+turning-proper c s o _ _ p (snap_heard t l r e) = (refl, snap-fine is_proper shard-proper t l r)
+turning-proper c s o _ _ p (snap_woken t l e) = (refl, woken-fine is_proper shard-proper l.shard l.state)
 turning-proper c s o _ _ p (stub_asks attempt shards) = (refl, refl)
-turning-proper c s o _ _ p (stub_tells attempt shards o' e) = (refl, decision-proper attempt o' shards)
+turning-proper c s o _ _ p (stub_tells attempt shards o' e) = (refl, decision-fine is_proper shard-proper attempt o' shards)

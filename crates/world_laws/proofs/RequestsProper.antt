@@ -34,7 +34,7 @@ abbrev is_fine : Message → Type 0
 is_fine x = is_proper_body x.envelope.target x.body ≡ true
 
 -- a message of a longer net is one of the shorter, or the new one
-either : (net : List Message) (x : Message) (k : ℕ) → (message_at (net ++ x ∷ []) k ≡ message_at net k) ⊎ (message_at (net ++ x ∷ []) k ≡ x)
+pub either : (net : List Message) (x : Message) (k : ℕ) → (message_at (net ++ x ∷ []) k ≡ message_at net k) ⊎ (message_at (net ++ x ∷ []) k ≡ x)
 either net x k = by_place (get_or_append net (x ∷ []) k no_message) (get_or_one x (k - length net) no_message) (get_or_past net k no_message)
   where
     by_place : ((get_or (net ++ x ∷ []) k no_message ≡ get_or net k no_message) × (k < length net)) ⊎ ((get_or (net ++ x ∷ []) k no_message ≡ get_or (x ∷ []) (k - length net) no_message) × (length net ≤ k)) → ((get_or (x ∷ []) (k - length net) no_message ≡ x) × (k - length net ≡ 0)) ⊎ ((get_or (x ∷ []) (k - length net) no_message ≡ no_message) × (0 < k - length net)) → (k < length net) ⊎ (get_or net k no_message ≡ no_message) → (message_at (net ++ x ∷ []) k ≡ message_at net k) ⊎ (message_at (net ++ x ∷ []) k ≡ x)
@@ -59,10 +59,10 @@ record Fine (s : State) : Type 0 where
   sessions : (o : ℕ) → session_proper (session_at s o) ≡ true
   messages : AreProper s
 
-sends_same : (s : State) (o : ℕ) (out : Out) (i : ℕ) → session_at (sends_one s o out) i ≡ session_at s i
+pub sends_same : (s : State) (o : ℕ) (out : Out) (i : ℕ) → session_at (sends_one s o out) i ≡ session_at s i
 sends_same s o out i = grind (arith, looks)
 
-served_same : (s : State) (o : ℕ) (service : ServiceId) (r : Request) (i : ℕ) → session_at (notes_served s o service r) i ≡ session_at s i
+pub served_same : (s : State) (o : ℕ) (service : ServiceId) (r : Request) (i : ℕ) → session_at (notes_served s o service r) i ≡ session_at s i
 served_same s o service r i = grind (arith, looks)
 
 fine_sends_one : (s : State) (o : ℕ) (out : Out) → is_proper out.target out.request ≡ true → Fine s → Fine (sends_one s o out)

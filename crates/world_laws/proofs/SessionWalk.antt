@@ -120,9 +120,10 @@ pub data Turning (c : Config) (s : State) (o : ℕ) : Session → List Out → T
   stub_asks : (attempt : Attempt) (shards : List ℕ) → Turning c s o (session.Settling attempt shards) (line_out (least_shard shards) (request.Decide attempt false 0) ∷ [])
   stub_tells : (attempt : Attempt) (shards : List ℕ) (outcome : Outcome) → session_at s o ≡ session.Settling attempt shards → Turning c s o (session.Settling attempt shards) (tells_decision attempt outcome shards)
 
--- a message of an exchange, from or to a target, that was sent
-pub record IsLost (s : State) (exchange : ℕ) (target : Target) : Type 0 where
+-- a message of an owner's exchange, from or to a target, that was sent
+pub record IsLost (s : State) (o exchange : ℕ) (target : Target) : Type 0 where
   pub number : ℕ
+  pub by : (message_at s.net number).envelope.owner ≡ o
   pub numbered : 0 < number
   pub sent : number < length s.net
   pub of : (message_at s.net number).envelope.exchange ≡ exchange
@@ -130,7 +131,7 @@ pub record IsLost (s : State) (exchange : ℕ) (target : Target) : Type 0 where
 
 -- a request that was lost in its exchange
 pub record IsAgain (s : State) (o exchange slot : ℕ) (target : Target) (r : Request) : Type 0 where
-  pub lost : IsLost s exchange target
+  pub lost : IsLost s o exchange target
   pub current : slot_in (owner_at s o).currents exchange ≡ Some slot
   pub asked : (message_at s.net exchange).body ≡ body.Request r
 
@@ -445,31 +446,31 @@ module _ (c : Config) (P : State → Type 0) (k : SessionKeeps c P) where
       cond_both (is_quorum_lost c.tries (owner_at s o).losses service (replicas_of c service)) _ (cuts_off s o (Replica service replica)) P
       (λ t. w_target_lost (cuts_off s o (Replica service replica)) o (Replica service replica) (owner_at s o).kind (turn s o _ (session_without (session_at s o) (Replica service replica)) [] _ _ _ _ refl (loses_one (Replica service replica)) h)) (λ f. turn s o _ (session_without (session_at s o) (Replica service replica)) [] _ _ _ _ refl (loses_one (Replica service replica)) h)
 
-  w_asks_again : (s : State) (o exchange slot : ℕ) (target : Target) → IsLost s exchange target → slot_in (owner_at s o).currents exchange ≡ Some slot → (x : MessageBody) → (message_at s.net exchange).body ≡ x → P s → P (asks_again s o slot target x)
+  w_asks_again : (s : State) (o exchange slot : ℕ) (target : Target) → IsLost s o exchange target → slot_in (owner_at s o).currents exchange ≡ Some slot → (x : MessageBody) → (message_at s.net exchange).body ≡ x → P s → P (asks_again s o slot target x)
   w_asks_again s o exchange slot target d e (body.Request r) b h = k.again s o exchange slot target r (record { lost = d; current = e; asked = b }) h
   w_asks_again s o exchange slot target d e (body.Reply r) b h = h
 
-  w_replaces : (s : State) (o : ℕ) (target : Target) (exchange : ℕ) → IsLost s exchange target → (slot : Option ℕ) → slot_in (owner_at s o).currents exchange ≡ slot → P s → P (replaces s o target exchange slot)
+  w_replaces : (s : State) (o : ℕ) (target : Target) (exchange : ℕ) → IsLost s o exchange target → (slot : Option ℕ) → slot_in (owner_at s o).currents exchange ≡ slot → P s → P (replaces s o target exchange slot)
   w_replaces s o target exchange d None e h = h
   w_replaces s o target exchange d (Some slot) e h = w_asks_again s o exchange slot target d e (message_at s.net exchange).body refl h
 
-  w_loss_counts : (s : State) (o : ℕ) (e : Envelope) → IsLost s e.exchange e.target → P s → P (loss_counts c s o e)
+  w_loss_counts : (s : State) (o : ℕ) (e : Envelope) → IsLost s o e.exchange e.target → P s → P (loss_counts c s o e)
   w_loss_counts s o e d h =
       let t = counts_loss s o e.target in
       let q : P t = own s _ _ _ _ _ _ refl h in
       cond_both (reaches_tries c.tries (owner_at s o).losses e.target) _ _ P
       (λ r. w_is_cut_off t o e.target q)
-      (λ f. cond_both (nat_lt (losses_of (owner_at t o).losses e.target) c.tries) _ t P (λ r. w_replaces t o e.target e.exchange (record { number = d.number; numbered = d.numbered; sent = d.sent; of = d.of; to = d.to }) (slot_in (owner_at t o).currents e.exchange) refl q) (λ g. q))
+      (λ f. cond_both (nat_lt (losses_of (owner_at t o).losses e.target) c.tries) _ t P (λ r. w_replaces t o e.target e.exchange (record { number = d.number; by = d.by; numbered = d.numbered; sent = d.sent; of = d.of; to = d.to }) (slot_in (owner_at t o).currents e.exchange) refl q) (λ g. q))
 
-  w_loses : (s : State) (e : Envelope) → IsLost s e.exchange e.target → P s → P (loses c s e)
+  w_loses : (s : State) (e : Envelope) → IsLost s e.owner e.exchange e.target → P s → P (loses c s e)
   w_loses s e d h = cond_both (is_running (owner_at s e.owner).fate) _ s P (λ t. w_loss_counts s e.owner e d h) (λ f. h)
 
   -- a message that was sent is lost
-  is_lost : (s : State) (m : ℕ) → IsSent s m → IsLost (marks_message s m fate.Lost) (message_at s.net m).envelope.exchange (message_at s.net m).envelope.target
+  is_lost : (s : State) (m : ℕ) → IsSent s m → IsLost (marks_message s m fate.Lost) (message_at s.net m).envelope.owner (message_at s.net m).envelope.exchange (message_at s.net m).envelope.target
   is_lost s m d =
       let t = marks_message s m fate.Lost in
       let q : message_at t.net m ≡ record (message_at s.net m) { fate = fate.Lost } = get_or-set_same s.net m _ no_message d.sent in
-      record { number = m; numbered = d.numbered; sent = grind (arith, looks, d.sent); of = ap (λ (x : Message). x.envelope.exchange) q; to = ap (λ (x : Message). x.envelope.target) q }
+      record { number = m; by = ap (λ (x : Message). x.envelope.owner) q; numbered = d.numbered; sent = grind (arith, looks, d.sent); of = ap (λ (x : Message). x.envelope.exchange) q; to = ap (λ (x : Message). x.envelope.target) q }
 
   -- stubs
   w_stub_starts : (s : State) (o : ℕ) (at : Reading) (x : OwnerKind) → P s → P (stub_starts c s o at x)

@@ -17,6 +17,7 @@ use Rattle.world_laws.specs.Alone.{IsAlone}
 use Rattle.world_laws.specs.Ascending.{Ascending}
 use Rattle.world_laws.specs.Exchanges.{Exchanges}
 use Rattle.world_laws.specs.Later.{Later}
+use Rattle.world_laws.specs.Own.{AreOwn}
 use Rattle.world_laws.specs.Proper.{AreProper}
 
 -- a run goes on by a step that is not refused
@@ -88,3 +89,7 @@ MarksTellSteps =
 -- the notes of each register ascend
 abbrev pub MarksAscend : Type 0
 MarksAscend = (c : Config) (steps : List Step) (s : State) (key : Key) → run c steps ≡ Some s → Ascending s.steps (marks_at s key)
+
+-- every store of a run is of its own call
+abbrev pub StoresAreOwn : Type 0
+StoresAreOwn = (c : Config) (steps : List Step) (s : State) → run c steps ≡ Some s → AreOwn s

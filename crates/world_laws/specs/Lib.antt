@@ -1,6 +1,7 @@
 pub mod Later
 pub mod Exchanges
 pub mod Proper
+pub mod Own
 pub mod Alone
 pub mod Ascending
 pub mod Laws

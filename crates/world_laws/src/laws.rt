@@ -1,6 +1,6 @@
 //! The laws of runs. They hold no code: each is the contract of a function that does nothing.
 
-ghost use Rattle.world_laws.specs.Laws.{RunsGoOn, RunsAreCounted, LogsGrow, ReadingsAreConsistent, MomentsAreTrue, TimesHaveSteps, StepsOfTimesStay, NothingChangesBack, RepliesFit, RequestsAreProper, MarksTellSteps, MarksAscend};
+ghost use Rattle.world_laws.specs.Laws.{RunsGoOn, RunsAreCounted, LogsGrow, ReadingsAreConsistent, MomentsAreTrue, TimesHaveSteps, StepsOfTimesStay, NothingChangesBack, RepliesFit, RequestsAreProper, StoresAreOwn, MarksTellSteps, MarksAscend};
 
 /// A run goes on by every step that is not refused.
 #[tactic(auto, using(crate::proofs::Runs::run_more))]
@@ -64,6 +64,13 @@ pub fn replies_fit()
 #[tactic(auto, using(crate::proofs::RequestsProper::proper_run))]
 pub fn requests_are_proper()
     ensures { RequestsAreProper }
+{}
+
+/// In every run each store that a replica is sent names its owner as the writer, and bears a stamp of
+/// its owner.
+#[tactic(auto, using(crate::proofs::StoresOwn::own_run))]
+pub fn stores_are_own()
+    ensures { StoresAreOwn }
 {}
 
 /// The noted step of a stamp is the first step after which a majority of the register's replicas
