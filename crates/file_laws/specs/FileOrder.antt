@@ -1,4 +1,4 @@
--- The tables of names hold the names of the file in file order, and what belongs to a name stands at its place.
+-- The tables of names hold the names of the file in file order, and there is a home for each key and a service for each register.
 use Rattle.std.specs.Prelude.{◌≡◌, ℕ, List, [], ◌∷◌, ◌++◌, length, map}
 use Rattle.pipeline_tables.specs.declared.tables.FileTables.{FileTables}
 use Rattle.pipeline_file.specs.NameTables.{all_declared}

@@ -55,7 +55,7 @@ pub fn nothing_changes_back()
 
 /// In every run each message has its number and belongs to the exchange of a request that was sent;
 /// a reply has its request's owner, stage, target and ordinal, and is one that the target's row
-/// gives to that request.
+/// gives to that request in some state.
 pub fn replies_fit()
     ensures { RepliesFit }
 {}
@@ -74,8 +74,8 @@ pub fn stores_are_own()
 {}
 
 /// The noted step of a stamp is the first step after which a majority of the register's replicas
-/// holds that stamp or a greater one, for each register whose number no other one that is written
-/// has.
+/// holds that stamp or a greater one, for each register of the file whose number no other one that is
+/// written has, and whose service's place no other service that is asked has.
 #[tactic(auto, using(crate::proofs::Marked::marks_tell))]
 pub fn marks_tell_steps()
     ensures { MarksTellSteps }
