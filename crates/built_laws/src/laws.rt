@@ -2,17 +2,20 @@
 //! does nothing.
 
 ghost use Rattle.std.specs.Prelude.{◌≡◌, true, List, Some};
+ghost use Rattle.std.specs.List.{list_all};
 ghost use Rattle.pipeline_lang.specs.declared.config.Config.{Config};
-ghost use Rattle.rss_machine.specs.Built.{is_built};
+ghost use Rattle.rss_machine.specs.Built.{is_built, is_built_step};
 ghost use Rattle.rss_machine.specs.Run.{run};
 ghost use Rattle.rss_machine.specs.State.{State};
 ghost use Rattle.rss_machine.specs.declared.step.Step.{Step};
 ghost use Rattle.built_laws.specs.Ready.{IsReady};
 
-/// Every state of a run of a file that is built meets what the code of its steps needs: a stage that
-/// is to begin a call keeps no dependency, messages are between calls and replicas of the register
-/// service, no stamp has a number above that of the steps, and there are few owners and messages.
+/// Every state of a run of a file that is built, of steps of kinds that run, meets what the code of its
+/// steps needs: a stage that is to begin a call keeps no dependency, messages are between calls and
+/// replicas of the register service, no stamp has a number above that of the steps, and there are few
+/// owners and messages.
 pub fn built_runs_are_ready()
     ensures { (c : Config) (steps : List Step) (s : State) →
-        is_built c ≡ true → run c steps ≡ Some s → IsReady c s }
+        is_built c ≡ true → list_all (λ (step : Step). is_built_step step.kind) steps ≡ true →
+        run c steps ≡ Some s → IsReady c s }
 {}

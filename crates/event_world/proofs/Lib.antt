@@ -1,5 +1,6 @@
-pub mod Arrived
-pub mod Sent
-pub mod Allowed
-pub mod Readiness
-pub mod Keeping
+pub mod Lists
+pub mod Owners
+pub mod Noting
+pub mod Built
+pub mod Begins
+pub mod Hears

@@ -1,6 +1,5 @@
-pub mod Machine
+pub mod Parts
 pub mod Next
-pub mod Ready
-pub mod World
-pub mod Kept
-pub mod Asked
+pub mod Targets
+pub mod Machine
+pub mod Moves

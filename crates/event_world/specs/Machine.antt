@@ -1,29 +1,33 @@
 -- The machine's state, read from the parts that the code keeps, and the room that a step needs.
-use Rattle.std.specs.Prelude.{◌≡◌, ◌+◌, ◌≤◌, Bool, ◌&&◌, nat_le, [], vec_len, vec_capacity}
-use Rattle.event_world.specs.declared.machine.Machine.{Machine}
-use Rattle.first_machine.specs.State.{State, start}
+use Rattle.std.specs.Prelude.{◌≡◌, ◌+◌, ◌≤◌, Bool, ◌&&◌, nat_le, [], ◌∷◌, replicate, vec_len, vec_capacity}
 use Rattle.pipeline_lang.specs.declared.config.Config.{Config}
+use Rattle.rss_machine.specs.State.{State, start, no_owner}
+use Rattle.event_world.specs.Parts.{marks_from}
+use Rattle.event_world.specs.declared.machine.Machine.{Machine}
 
--- the state of the machine
+-- the state of the machine: there are no pipes and shards, one register service, and no fence was planned
 abbrev pub state_of : Machine → State
 state_of m = record {
   steps = m.steps;
-  moment = m.moments;
+  moment = m.moment;
+  moments = m.moments.items;
   stages = m.stages.items;
-  calls = m.calls.items;
-  sessions = m.sessions.items;
+  pipes = [];
+  owners = no_owner ∷ m.owners.items;
   net = m.net.messages;
-  replicas = m.replicas.items;
-  marks = m.marks.items;
+  shards = [];
+  replicas = m.replicas.items ∷ [];
+  marks = marks_from 0 m.registers m.notes.items;
+  planned = replicate 16 0;
   history = m.history.items;
 }
 
 -- there is room for all that one step can add
 pub record HasRoom (m : Machine) : Type 0 where
-  pub calls : vec_len m.calls + 1 ≤ vec_capacity m.calls
-  pub sessions : vec_len m.sessions + 1 ≤ vec_capacity m.sessions
+  pub moments : vec_len m.moments + 1 ≤ vec_capacity m.moments
+  pub owners : vec_len m.owners + 1 ≤ vec_capacity m.owners
   pub net : 7 ≤ m.net.room
-  pub marks : vec_len m.marks + 1 ≤ vec_capacity m.marks
+  pub notes : vec_len m.notes + 1 ≤ vec_capacity m.notes
   pub history : vec_len m.history + 2 ≤ vec_capacity m.history
   pub outbox : 7 ≤ m.outbox.room
   pub shown : vec_len m.shown + 1 ≤ vec_capacity m.shown
@@ -31,10 +35,10 @@ pub record HasRoom (m : Machine) : Type 0 where
 -- the same as a test
 abbrev pub has_room : Machine → Bool
 has_room m =
-    nat_le (vec_len m.calls + 1) (vec_capacity m.calls)
-    && nat_le (vec_len m.sessions + 1) (vec_capacity m.sessions)
+    nat_le (vec_len m.moments + 1) (vec_capacity m.moments)
+    && nat_le (vec_len m.owners + 1) (vec_capacity m.owners)
     && nat_le 7 m.net.room
-    && nat_le (vec_len m.marks + 1) (vec_capacity m.marks)
+    && nat_le (vec_len m.notes + 1) (vec_capacity m.notes)
     && nat_le (vec_len m.history + 2) (vec_capacity m.history)
     && nat_le 7 m.outbox.room
     && nat_le (vec_len m.shown + 1) (vec_capacity m.shown)

@@ -1,143 +1,121 @@
 //! Acts: a stage makes its next statement.
 
-ghost use Rattle.std.specs.Prelude.{◌≡◌, ◌+◌, ◌-◌, ◌<◌, ◌≤◌, ◌^◌, [], ◌∷◌, ◌++◌, length, true, false, IsSome, IsTrue, set, Some, None};
+ghost use Rattle.std.specs.Prelude.{◌≡◌, ◌+◌, ◌-◌, ◌<◌, ◌≤◌, ◌^◌, [], ◌∷◌, ◌++◌, length, true, map, set, Some, None, IsSome};
 ghost use Rattle.event_world.specs.Machine.{state_of, HasRoom};
-ghost use Rattle.event_world.specs.Ready.{IsReady};
-ghost use Rattle.event_world.specs.Next.{makes_next, is_call};
-ghost use Rattle.first_machine.specs.Effect.{starts};
-ghost use Rattle.first_machine.specs.Moves.{begins, exits};
-ghost use Rattle.first_machine.specs.State.{stage_at, register_service, built_replicas, nobody_cut};
-ghost use Rattle.rss_tables.specs.RegisterSession.{round_requests, opening_session, work_key};
+ghost use Rattle.event_world.specs.Moves.{opens, leaves, begins, first_session, makes_next};
+ghost use Rattle.event_world.specs.Next.{is_call};
+ghost use Rattle.event_world.specs.Parts.{seen_of};
+ghost use Rattle.rss_machine.specs.Moves.{counts_act};
+ghost use Rattle.rss_machine.specs.State.{stage_at};
+ghost use Rattle.rss_tables.specs.RegisterSession.{round_requests, work_key};
 
+use crate::context::RegisterContext;
 use crate::machine::Machine;
 use crate::next::Next;
-use first_machine::{Call, Stage};
+use crate::owner::Owner;
 use gryff_quorum::RegSession;
-use rss_machine::Life;
+use pipeline_lang::Config;
 use rss_model::{Entry, How, Op, Token};
 use rss_names::{CallId, ServiceId, StageId};
 use rss_tables::RegWork;
 
-/// The register service that every file has.
+/// The register service that is built.
 const REGISTER_SERVICE: ServiceId = ServiceId::Reg(1);
 
 /// The number of its replicas that is built.
 pub const BUILT_REPLICAS: u8 = 3;
 
-/// A stage that is not there.
-const NO_STAGE: Stage = Stage {
-    life: Life::Unborn,
-    position: 0,
-    call: None,
-};
-
 impl Machine {
-    /// The stage of a number; one that the file lacks is unborn.
-    pub fn stage(&self, stage: StageId) -> Stage
-        ensures { result ≡ stage_at (state_of self.now) stage }
-    {
-        match self.stages.get((stage.number() - 1) as usize) {
-            Some(found) => *found,
-            None => NO_STAGE,
-        }
-    }
-
-    /// A stage does what is next.
+    /// A stage does what is next, in one more act.
     pub fn act(&mut self, stage: StageId, next: Next)
-        requires ready { IsReady self.old }
+        requires live { (stage_at (state_of self.old) stage).acts + 1 < 2 ^ 32 }
+        requires owners { length self.old.owners.items < 2 ^ 31 }
+        requires messages { length self.old.net.messages < 2 ^ 31 }
+        requires outbox { self.old.outbox.requests ≡ [] }
         requires room { HasRoom self.old }
-        requires position { IsTrue (is_call next) → (stage_at (state_of self.old) stage).position + 1 < 2 ^ 64 }
-        ensures effect { state_of self.new ≡ makes_next (state_of self.old) stage next }
+        ensures effect { state_of self.new ≡ makes_next (counts_act (state_of self.old) stage) stage next }
         ensures outbox { self.new.outbox.requests ≡ [] }
-        ensures shown { self.new.shown.items ≡ [] }
+        ensures shown { self.new.shown.items ≡ self.old.shown.items }
     {
+        self.count_act(stage);
         match next {
-            Next::Read(key) => self.start_call(stage, Op::Read(key), RegWork::Read(key)),
+            Next::Read(_, key) => self.start_call(stage, Op::Read(key), RegWork::Read(key)),
             Next::Write(key, value) => {
                 self.start_call(stage, Op::Write(key, value), RegWork::Write(key, value))
             }
             Next::Exit => self.exit(stage),
-            Next::NotBuilt => {}
+        }
+    }
+
+    // A stage makes one more act.
+    fn count_act(&mut self, stage: StageId)
+        requires few { (stage_at (state_of self.old) stage).acts + 1 < 2 ^ 32 }
+        ensures counts { state_of self.new ≡ counts_act (state_of self.old) stage }
+        ensures others { self.new ≡ record self.old { stages = self.new.stages } }
+    {
+        if let Some(found) = self.stages.get_mut((stage.number() - 1) as usize) {
+            found.count_act();
         }
     }
 
     // A stage begins a call and sends the requests of its first round.
     fn start_call(&mut self, stage: StageId, op: Op, work: RegWork)
-        requires ready { IsReady self.old }
+        requires owners { length self.old.owners.items < 2 ^ 31 }
+        requires messages { length self.old.net.messages < 2 ^ 31 }
+        requires outbox { self.old.outbox.requests ≡ [] }
         requires room { HasRoom self.old }
-        requires position { (stage_at (state_of self.old) stage).position + 1 < 2 ^ 64 }
         requires call { IsSome (work_key work) }
-        ensures effect { state_of self.new ≡ starts (begins (state_of self.old) stage op work) (length self.old.calls.items) stage }
+        ensures effect { state_of self.new ≡ begins (state_of self.old) stage op work }
         ensures outbox { self.new.outbox.requests ≡ [] }
-        ensures shown { self.new.shown.items ≡ [] }
+        ensures shown { self.new.shown.items ≡ self.old.shown.items }
     {
-        let call = self.calls.len() as u32;
+        let call = self.owners.len() as u32 + 1;
         self.open_call(call, stage, op, work);
         self.send_all(call, stage);
     }
 
     // A stage begins a call: the requests of its first round lie in the outbox.
     fn open_call(&mut self, call: u32, stage: StageId, op: Op, work: RegWork)
-        requires ready { IsReady self.old }
+        requires number { call ≡ length self.old.owners.items + 1 }
+        requires outbox { self.old.outbox.requests ≡ [] }
         requires room { HasRoom self.old }
-        requires position { (stage_at (state_of self.old) stage).position + 1 < 2 ^ 64 }
-        requires number { call ≡ length self.old.calls.items }
         requires call { IsSome (work_key work) }
-        ensures begins { state_of self.new ≡ begins (state_of self.old) stage op work }
-        ensures outbox { self.new.outbox.requests ≡ round_requests (opening_session call work register_service built_replicas nobody_cut) }
-        ensures net { self.new.net ≡ self.old.net }
-        ensures calls { length self.new.calls.items ≡ length self.old.calls.items + 1 }
-        ensures shown { self.new.shown.items ≡ self.old.shown.items }
+        ensures opens { state_of self.new ≡ opens (state_of self.old) stage op (first_session call work) }
+        ensures outbox { self.new.outbox.requests ≡ round_requests (first_session call work) }
+        ensures owners { length self.new.owners.items ≡ length self.old.owners.items + 1 }
+        ensures others { self.new ≡ record self.old { stages = self.new.stages; owners = self.new.owners; history = self.new.history; outbox = self.new.outbox } }
     {
         let mut session = RegSession::new(call, work, REGISTER_SERVICE, BUILT_REPLICAS, [false; 7]);
         session.start(&mut self.outbox);
-        self.sessions.push(session).unwrap();
-        let noted = Call {
-            round_step: self.steps,
-            stored: false,
-            currents: [None; 7],
-        };
-        self.calls.push(noted).unwrap();
-        let stood = self.stage(stage);
-        self.set_stage(
-            stage,
-            Stage {
-                life: stood.life,
-                position: stood.position + 1,
-                call: Some(call),
-            },
-        );
+        let context = self.context_of(stage);
+        let owner = Owner::new(stage, context, session, self.steps);
+        self.owners.push(owner).unwrap();
+        if let Some(found) = self.stages.get_mut((stage.number() - 1) as usize) {
+            found.begin(call);
+        }
         let id = CallId::new(call).unwrap();
         self.history.push(Entry::Begin(id, stage, op)).unwrap();
     }
 
-    /// A stage stands otherwise; where the file lacks it nothing changes.
-    pub fn set_stage(&mut self, stage: StageId, stands: Stage)
-        ensures others { self.new ≡ record self.old { stages = self.new.stages } }
-        ensures stages { self.new.stages.items ≡ set self.old.stages.items (stage - 1) stands }
+    // What a stage has seen; one that the file lacks has seen nothing.
+    fn context_of(&self, stage: StageId) -> RegisterContext
+        ensures { seen_of result ≡ (stage_at (state_of self.now) stage).context }
     {
-        if let Some(place) = self.stages.get_mut((stage.number() - 1) as usize) {
-            *place = stands;
+        match self.stage(stage) {
+            Some(found) => found.context(),
+            None => RegisterContext::empty(),
         }
     }
 
     // A stage exits.
     fn exit(&mut self, stage: StageId)
-        requires ready { IsReady self.old }
         requires room { HasRoom self.old }
-        ensures exits { state_of self.new ≡ exits (state_of self.old) stage }
-        ensures outbox { self.new.outbox.requests ≡ self.old.outbox.requests }
-        ensures shown { self.new.shown.items ≡ self.old.shown.items }
+        ensures exits { state_of self.new ≡ leaves (state_of self.old) stage }
+        ensures others { self.new ≡ record self.old { stages = self.new.stages; history = self.new.history } }
     {
-        let stood = self.stage(stage);
-        self.set_stage(
-            stage,
-            Stage {
-                life: Life::Over(How::Exited),
-                position: stood.position,
-                call: stood.call,
-            },
-        );
+        if let Some(found) = self.stages.get_mut((stage.number() - 1) as usize) {
+            found.exit();
+        }
         self.history.push(Entry::Over(stage, How::Exited)).unwrap();
         self.history
             .push(Entry::Give(stage, Token::Exit(stage)))

@@ -1,18 +1,16 @@
-//! Code: the World, which makes steps one after another and keeps the log that replays to its state.
+//! Code: the World, which makes steps and refuses them.
 #![tactic(auto)]
 
 mod acts;
+mod context;
 mod deliveries;
 mod machine;
 mod majority;
+mod marks;
 mod next;
-mod opening;
-mod reading;
-mod refusing;
-mod standing;
-mod taking;
-mod world;
+mod owner;
+mod stage;
 
-pub use rss_machine::{Ending, Logged, StageState, Step, StepKind, StepRefusal};
-pub use standing::life_state;
-pub use world::World;
+pub use context::RegisterContext;
+pub use owner::Owner;
+pub use stage::Stage;

@@ -1,7 +1,7 @@
 //! Which stamps a majority of replicas holds.
 
 ghost use Rattle.std.specs.Prelude.{◌≡◌, length};
-ghost use Rattle.first_machine.specs.Marks.{count_holders as holders_of, is_held as held, greatest_held as greatest_of, majority_stamp as majority_of};
+ghost use Rattle.rss_machine.specs.Marks.{count_holders as holders_of, is_held as held, greatest_held as greatest_of, majority_stamp as majority_of};
 
 use carstamps::Carstamp;
 use reg_replica::Replica;

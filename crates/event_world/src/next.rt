@@ -1,9 +1,9 @@
 //! The statement that a stage makes next.
 
-ghost use Rattle.std.specs.Prelude.{◌≡◌, ◌+◌, ◌-◌, ◌<◌, ◌^◌, get_or, true, IsTrue};
-ghost use Rattle.first_machine.specs.Effect.{script_of, expr_value as value_of, no_body};
-ghost use Rattle.event_world.specs.Next.{next_of as next_from, is_call, is_built_next};
+ghost use Rattle.std.specs.Prelude.{◌≡◌, ◌+◌, ◌<◌, ◌^◌, true, get_or};
 ghost use Rattle.pipeline_lang.specs.declared.script.Statement.TheVariants as statement;
+ghost use Rattle.pipeline_lang.specs.Config.{statement_at};
+ghost use Rattle.event_world.specs.Next.{next_from, is_call};
 
 use pipeline_lang::{Config, Expr, Statement, Term};
 use rss_names::{Key, StageId};
@@ -11,31 +11,17 @@ use rss_names::{Key, StageId};
 /// What a stage does next, of the statements that are built.
 #[derive(Clone, Copy, Debug, PartialEq, Eq)]
 pub enum Next {
-    /// Reads a register.
-    Read(Key),
-    /// Writes a value to a register.
+    /// Reads a register into a variable.
+    Read(u8, Key),
+    /// Writes a number to a register.
     Write(Key, u64),
     Exit,
-    /// The statement is not built yet.
-    NotBuilt,
 }
 
-impl Next {
-    /// Whether this can be done.
-    pub fn is_built(self) -> bool
-        ensures { result ≡ is_built_next self }
-    {
-        match self {
-            Next::Read(_) | Next::Write(_, _) | Next::Exit => true,
-            Next::NotBuilt => false,
-        }
-    }
-}
-
-/// What a stage does at this position of its script. An exit stands after the last statement.
+/// What a stage does at this position of its script. An exit stands behind the last statement.
 pub fn next_at(config: &Config, stage: StageId, position: usize) -> Next
-    ensures next { result ≡ next_from (get_or (script_of config.now stage) position statement.Exit) }
-    ensures within { IsTrue (is_call result) → position + 1 < 2 ^ 64 }
+    ensures next { result ≡ next_from (statement_at config.now stage position) }
+    ensures within { is_call result ≡ true → position + 1 < 2 ^ 64 }
 {
     match config.bodies.as_slice().get((stage.number() - 1) as usize) {
         Some(body) => next_in(body.script.as_slice(), position),
@@ -43,10 +29,10 @@ pub fn next_at(config: &Config, stage: StageId, position: usize) -> Next
     }
 }
 
-// What the statement at this position makes a stage do.
+// What the statement at this position of a script makes a stage do.
 fn next_in(script: &[Statement<u8, Key, StageId, u8>], position: usize) -> Next
     ensures next { result ≡ next_from (get_or script.now position statement.Exit) }
-    ensures within { IsTrue (is_call result) → position + 1 < 2 ^ 64 }
+    ensures within { is_call result ≡ true → position + 1 < 2 ^ 64 }
 {
     match script.get(position) {
         Some(statement) => next_of(statement),
@@ -54,24 +40,13 @@ fn next_in(script: &[Statement<u8, Key, StageId, u8>], position: usize) -> Next
     }
 }
 
-// What a statement makes a stage do.
+// What a statement makes a stage do; no other one is built.
 fn next_of(statement: &Statement<u8, Key, StageId, u8>) -> Next
     ensures { result ≡ next_from statement.now }
 {
     match statement {
-        Statement::Read(_, key) => Next::Read(*key),
-        Statement::Write(key, value) => Next::Write(*key, expr_value(value)),
-        Statement::Exit => Next::Exit,
-        _ => Next::NotBuilt,
-    }
-}
-
-// The value of an expression that is a number.
-fn expr_value(value: &Expr<u8>) -> u64
-    ensures { result ≡ value_of value.now }
-{
-    match value {
-        Expr::One(Term::Number(number)) => *number,
-        _ => 0,
+        Statement::Read(variable, key) => Next::Read(*variable, *key),
+        Statement::Write(key, Expr::One(Term::Number(value))) => Next::Write(*key, *value),
+        _ => Next::Exit,
     }
 }

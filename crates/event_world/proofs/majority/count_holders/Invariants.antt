@@ -1,5 +1,5 @@
 use Rattle.std.proofs.Common.{◌≡◌, ◌+◌, ◌≤◌, drop}
-use Rattle.first_machine.specs.Marks.{count_holders as holders_of}
+use Rattle.rss_machine.specs.Marks.{count_holders as holders_of}
 use Rattle.event_world.proofs.majority.count_holders.Given as goal
 
 -- what is counted and what is left to count are the whole
