@@ -31,7 +31,7 @@ pub record BuiltScript (script : List (Statement ℕ Key ℕ ℕ)) : Type 0 wher
   pub service : key.service ≡ built_service
   pub read_service : read_key.service ≡ built_service
 
-same-is : (a b : ServiceId) → same_service a b ≡ true → a ≡ b
+pub same-is : (a b : ServiceId) → same_service a b ≡ true → a ≡ b
 same-is (Txn m) (Txn n) h = ap Txn (eqb-true m n h)
 same-is (Reg m) (Reg n) h = ap Reg (eqb-true m n h)
 same-is (Txn m) (Reg n) h = absurd (cc)
@@ -50,6 +50,7 @@ pub record BuiltFile (c : Config) : Type 0 where
   pub body : Body
   pub bodies : c.bodies ≡ body ∷ []
   pub script : BuiltScript body.script
+  pub services : are_built_services c.services ≡ true
   pub replicas : replicas_of c built_service ≡ built_replicas
   pub shards : c.shard_services ≡ []
   pub pipes : c.pipe_ends ≡ []
@@ -82,7 +83,7 @@ built_file c e =
     let d = and_parts (are_built_bodies c.bodies && are_built_services c.services) (length c.shard_services == 0) b.0 in
     let f = and_parts (are_built_bodies c.bodies) (are_built_services c.services) d.0 in
     let g = built_bodies c.bodies f.0 in
-    record { body = g.body; bodies = g.is; script = g.script; replicas = built_services c.services f.1; shards = no_elements c.shard_services d.1; pipes = no_elements c.pipe_ends b.1; tries = a.1 }
+    record { body = g.body; bodies = g.is; script = g.script; services = f.1; replicas = built_services c.services f.1; shards = no_elements c.shard_services d.1; pipes = no_elements c.pipe_ends b.1; tries = a.1 }
 
 -- the statements of such a file are those that are built
 script_next : (key read_key : Key) (value variable i : ℕ) → statement_of (next_from (get_or (statement.Write key (One (Number value)) ∷ statement.Read variable read_key ∷ []) i statement.Exit)) ≡ get_or (statement.Write key (One (Number value)) ∷ statement.Read variable read_key ∷ []) i statement.Exit

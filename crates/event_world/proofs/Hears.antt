@@ -10,16 +10,25 @@ use Rattle.rss_wire.specs.declared.messages.Request.{Request}
 use Rattle.rss_wire.specs.declared.messages.Request.TheVariants.{Lock, Prepare, Decide, Commit, Abort, Inquire, Release, Snapshot, Fix, Ask, Stamp, Store}
 use Rattle.rss_tables.specs.Outs.{Out, awaited, slot_replica}
 use Rattle.rss_tables.specs.RegisterSession.{RegSession, session_after, phase_end, round_requests}
+use Rattle.carstamps.specs.declared.carstamp.Carstamp.{Carstamp}
+use Rattle.causal_context.specs.declared.dep.Dep.{Dep}
+use Rattle.causal_context.specs.Seen.{Seen, after_read, after_write}
+use Rattle.rss_model.specs.CallStatement.{after_call}
+use Rattle.rss_wire.specs.declared.messages.RegReply.{RegReply}
 use Rattle.rss_tables.specs.declared.register_session.RegEnd.{RegEnd}
+use Rattle.rss_tables.specs.declared.register_session.RegEnd.TheVariants as ends
+use Rattle.rss_tables.specs.declared.register_session.RegWork.{RegWork}
+use Rattle.rss_tables.specs.declared.register_session.RegWork.TheVariants as work
+use Rattle.rss_machine.specs.Enabling.{next_statement}
 use Rattle.built_laws.specs.Ready.{is_call_request}
 use Rattle.rss_machine.specs.Built.{built_service}
 use Rattle.rss_machine.specs.Calls.{register_ends}
 use Rattle.rss_machine.specs.Effect.{reply_comes, register_goes_on, opens_round, request_comes}
-use Rattle.rss_machine.specs.Moves.{with_owner, turns_session, listens, forgets, goes_on, sends, serves_replica, notes_served}
+use Rattle.rss_machine.specs.Moves.{with_owner, turns_session, listens, forgets, goes_on, sends, serves_replica, ends_call}
 use Rattle.rss_machine.specs.Session.{Session}
-use Rattle.rss_machine.specs.State.{State, Owner, owner_at, no_owner, no_currents}
+use Rattle.rss_machine.specs.State.{State, Owner, stage_at, owner_at, no_owner, no_currents}
 use Rattle.rss_machine.specs.declared.session.Session.TheVariants as session
-use Rattle.event_world.specs.Moves.{hears_reply, noted_by, stored_key}
+use Rattle.event_world.specs.Moves.{hears_reply, noted_by, stored_key, goes_on_by}
 use Rattle.event_world.specs.Parts.{register_in}
 use Rattle.event_world.proofs.Lists.{set_same, set_set, get_set}
 
@@ -109,3 +118,21 @@ served_built s m o at replica (Abort attempt) h = absurd (cc)
 served_built s m o at replica (Inquire attempt) h = absurd (cc)
 served_built s m o at replica (Release attempt time last) h = absurd (cc)
 served_built s m o at replica (Snapshot read_time least keys skip) h = absurd (cc)
+
+-- a register call goes on whose session is in its place: it has ended, begins a round, or waits
+pub goes_on_turned : (c : Config) (s : State) (o : ℕ) (r : RegSession) (anew : Bool) (end : Option RegEnd) → o < length s.owners → (owner_at s o).session ≡ session.Register r → register_goes_on c s o r anew end ≡ goes_on_by c s o r anew end
+unfolding as_register without
+goes_on_turned c s o r anew (Some end) h e = ap (λ (t : State). register_ends c (forgets t o) o r.work end) (turns_same s o r e)
+goes_on_turned c s o r true None h e =
+    let still : (owner_at (forgets s o) o).session ≡ session.Register r = ap (λ (w : Owner). w.session) (put_there s o (without (owner_at s o)) h) ∙ e in
+    ap (λ (t : State). sends t o (awaited (round_requests r))) (turns_same (forgets s o) o r still)
+goes_on_turned c s o r false None h e = turns_same s o r e
+
+-- a call that ends, by its work
+pub ends_read : (c : Config) (s : State) (o : ℕ) (w : RegWork) (key : Key) (cell : RegReply) (dep : Option Dep) (seen : Seen) → w ≡ work.Read key → key.service ≡ built_service → seen ≡ after_read (owner_at s o).works.copy built_service dep
+    → register_ends c s o w (ends.Read cell dep) ≡ ends_call s o (record { key = key; value = cell.value; writer = cell.writer } ∷ []) (after_call (stage_at s (owner_at s o).stage).cursor (next_statement c s (owner_at s o).stage) (cell.value ∷ [])) seen
+ends_read c s o w key cell dep seen e service is = rw (e, is, service) refl
+
+pub ends_write : (c : Config) (s : State) (o : ℕ) (w : RegWork) (key : Key) (value : ℕ) (stamp : Carstamp) (seen : Seen) → w ≡ work.Write key value → key.service ≡ built_service → seen ≡ after_write (owner_at s o).works.copy built_service
+    → register_ends c s o w (ends.Written stamp) ≡ ends_call s o [] (after_call (stage_at s (owner_at s o).stage).cursor (next_statement c s (owner_at s o).stage) []) seen
+ends_write c s o w key value stamp seen e service is = rw (e, is, service) refl

@@ -4,3 +4,5 @@ pub mod Noting
 pub mod Built
 pub mod Begins
 pub mod Hears
+pub mod Sent
+pub mod StartsSo

@@ -1,5 +1,5 @@
 -- Places of lists.
-use Rattle.std.proofs.Common.{◌≡◌, ℕ, zero, suc, ◌+◌, ◌<◌, List, [], ◌∷◌, ◌++◌, length, get_or, set, refl, ap, arith}
+use Rattle.std.proofs.Common.{◌≡◌, ℕ, zero, suc, ◌+◌, ◌-◌, ◌<◌, ◌≤◌, List, [], ◌∷◌, ◌++◌, length, get_or, set, refl, ap, arith}
 
 -- what is set to itself does not change
 pub set_same : {X : Type 0} (xs : List X) (i : ℕ) (d : X) → set xs i (get_or xs i d) ≡ xs
@@ -27,3 +27,14 @@ get_end (y ∷ xs) x d = get_end xs x d
 pub set_end : {X : Type 0} (xs : List X) (x y : X) → set (xs ++ x ∷ []) (length xs) y ≡ xs ++ y ∷ []
 set_end [] x y = refl
 set_end {X = X} (z ∷ xs) x y = ap (λ (l : List X). z ∷ l) (set_end xs x y)
+
+-- within a list the default does not count
+same_default : {X : Type 0} (xs : List X) (i : ℕ) (d e : X) → i < length xs → get_or xs i d ≡ get_or xs i e
+same_default [] i d e h = absurd (omega (arith, h))
+same_default (x ∷ xs) zero d e h = refl
+same_default (x ∷ xs) (suc i) d e h = same_default xs i d e (omega (arith, h))
+
+-- what stands at a number, where the first one stands at place 0
+pub at_number : {X : Type 0} (first : X) (xs : List X) (n : ℕ) (d e : X) → 1 ≤ n → n ≤ length xs → get_or (first ∷ xs) n d ≡ get_or xs (n - 1) e
+at_number first xs zero d e h k = absurd (omega (arith, h))
+at_number first xs (suc n) d e h k = let q : suc n - 1 ≡ n = omega arith in rw q (same_default xs n d e (omega (arith, k)))

@@ -3,3 +3,4 @@ pub mod Next
 pub mod Targets
 pub mod Machine
 pub mod Moves
+pub mod Ready

@@ -54,3 +54,9 @@ pub record IsOpening (m : Machine) (c : Config) : Type 0 where
   pub state : state_of m ≡ start c
   pub outbox : m.outbox.requests ≡ []
   pub shown : m.shown.items ≡ []
+
+-- there is room for what a call sends or replies that has heard a reply
+pub record HasRoomToSend (m : Machine) : Type 0 where
+  pub net : 7 ≤ m.net.room
+  pub history : vec_len m.history + 1 ≤ vec_capacity m.history
+  pub shown : 1 ≤ vec_capacity m.shown

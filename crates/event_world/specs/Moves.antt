@@ -3,6 +3,8 @@ use Rattle.std.specs.Prelude.{ℕ, ◌+◌, ◌-◌, Bool, true, false, List, []
 use Rattle.rss_names.specs.declared.service.Key.{Key}
 use Rattle.rss_names.specs.declared.service.Target.{Target}
 use Rattle.causal_context.specs.Seen.{Seen}
+use Rattle.pipeline_lang.specs.declared.config.Config.{Config}
+use Rattle.rss_model.specs.CallStatement.{after_call}
 use Rattle.rss_model.specs.declared.op.Op.{Op}
 use Rattle.rss_model.specs.declared.op.Op.TheVariants as op
 use Rattle.rss_model.specs.declared.op.Shown.{Shown}
@@ -13,15 +15,18 @@ use Rattle.rss_wire.specs.declared.messages.Request.{Request}
 use Rattle.rss_wire.specs.declared.messages.Request.TheVariants as request
 use Rattle.rss_wire.specs.declared.messages.Reply.{Reply}
 use Rattle.rss_tables.specs.Outs.{Out, target_slot}
-use Rattle.rss_tables.specs.RegisterSession.{RegSession, opening_session, round_requests, session_after}
+use Rattle.rss_tables.specs.RegisterSession.{RegSession, opening_session, round_requests, session_after, phase_end}
 use Rattle.rss_tables.specs.declared.register_session.RegWork.{RegWork}
 use Rattle.rss_tables.specs.declared.register_session.RegWork.TheVariants as work
 use Rattle.rss_tables.specs.declared.register_session.RegEnd.{RegEnd}
 use Rattle.rss_tables.specs.declared.register_session.RegEnd.TheVariants as ends
 use Rattle.rss_tables.specs.declared.register_session.RegPhase.{RegPhase}
 use Rattle.rss_machine.specs.Built.{built_service, built_replicas}
+use Rattle.rss_machine.specs.Calls.{register_ends}
+use Rattle.rss_machine.specs.Effect.{register_goes_on, opens_round}
+use Rattle.rss_machine.specs.Enabling.{next_statement}
 use Rattle.rss_machine.specs.Marks.{notes_keys}
-use Rattle.rss_machine.specs.Moves.{with_owner, sends}
+use Rattle.rss_machine.specs.Moves.{with_owner, with_stage, sends, forgets}
 use Rattle.rss_machine.specs.State.{State, stage_at, owner_at, replicas_at}
 use Rattle.rss_machine.specs.declared.session.Session.TheVariants as session
 use Rattle.rss_machine.specs.declared.state.Dates.{Dates}
@@ -98,3 +103,31 @@ abbrev pub makes_next : State → ℕ → Next → State
 makes_next s n (next.Read variable key) = begins s n (op.Read key) (work.Read key)
 makes_next s n (next.Write key value) = begins s n (op.Write key value) (work.Write key value)
 makes_next s n next.Exit = leaves s n
+
+-- a stage goes on behind its call, which was shown these values, with this context
+abbrev pub goes_behind : Config → State → ℕ → List ℕ → Seen → State
+goes_behind c s n values seen = with_stage s n (record (stage_at s n) {
+  cursor = after_call (stage_at s n).cursor (next_statement c s n) values;
+  context = seen;
+  owner = None;
+})
+
+-- what a session has sent that has heard a reply in this phase: nothing where it has ended, and its
+-- round where that has just begun
+abbrev pub sent_behind : RegSession → Option RegEnd → Bool → List (Target × Request)
+sent_behind r (Some end) anew = []
+sent_behind r None true = round_requests r
+sent_behind r None false = []
+
+abbrev pub sent_after : RegSession → RegPhase → List (Target × Request)
+sent_after r before = sent_behind r (phase_end r.phase) (opens_round before r.phase)
+
+-- a call goes on that has heard a reply in this phase
+abbrev pub goes_on_from : Config → State → ℕ → RegSession → RegPhase → State
+goes_on_from c s o r before = register_goes_on c s o r (opens_round before r.phase) (phase_end r.phase)
+
+-- a register call goes on whose session is in its place
+abbrev pub goes_on_by : Config → State → ℕ → RegSession → Bool → Option RegEnd → State
+goes_on_by c s o r anew (Some end) = register_ends c (forgets s o) o r.work end
+goes_on_by c s o r true None = sends (forgets s o) o (map asking (round_requests r))
+goes_on_by c s o r false None = s

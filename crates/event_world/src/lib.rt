@@ -5,9 +5,11 @@ mod acts;
 mod context;
 mod deliveries;
 mod machine;
+mod hearing;
 mod majority;
 mod marks;
 mod next;
+mod opening;
 mod owner;
 mod stage;
 
