@@ -6,3 +6,6 @@ pub mod Begins
 pub mod Hears
 pub mod Sent
 pub mod StartsSo
+pub mod Receives
+pub mod Readying
+pub mod Allowed

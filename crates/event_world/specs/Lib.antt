@@ -4,3 +4,6 @@ pub mod Targets
 pub mod Machine
 pub mod Moves
 pub mod Ready
+pub mod Asked
+pub mod World
+pub mod Kept

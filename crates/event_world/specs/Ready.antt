@@ -1,5 +1,5 @@
 -- What the rows need to know of the machine before a step: it follows from the run that led there.
-use Rattle.std.specs.Prelude.{ℕ, ◌≡◌, ◌+◌, ◌<◌, ◌≤◌, ◌^◌, Bool, true, [], length, Some, None}
+use Rattle.std.specs.Prelude.{ℕ, ◌≡◌, ◌+◌, ◌<◌, ◌≤◌, ◌^◌, Bool, true, [], length, Option, Some, None}
 use Rattle.rss_names.specs.declared.service.Key.{Key}
 use Rattle.pipeline_lang.specs.declared.config.Config.{Config}
 use Rattle.rss_wire.specs.declared.messages.Reply.{Reply}
@@ -10,8 +10,9 @@ use Rattle.rss_tables.specs.Round.{hears}
 use Rattle.gryff_quorum.specs.Heard.{HasSmallStamps}
 use Rattle.built_laws.specs.Ready.{is_built_target, is_call_request, is_register_call}
 use Rattle.rss_machine.specs.Built.{is_built, built_service, built_replicas}
-use Rattle.rss_machine.specs.Enabling.{next_statement}
-use Rattle.rss_machine.specs.State.{stage_at, owner_at}
+use Rattle.rss_machine.specs.Enabling.{next_statement, owner_enabling}
+use Rattle.rss_machine.specs.declared.turn.Enabling.TheVariants.{Never}
+use Rattle.rss_machine.specs.State.{State, stage_at, owner_at}
 use Rattle.event_world.specs.declared.machine.Machine.{Machine}
 use Rattle.event_world.specs.Machine.{state_of}
 use Rattle.event_world.specs.Parts.{register_in, IsRegister}
@@ -34,3 +35,8 @@ pub record IsReady (c : Config) (m : Machine) : Type 0 where
   pub messages : length m.net.messages < 2 ^ 31
   pub outbox : m.outbox.requests ≡ []
   pub shown : m.shown.items ≡ []
+
+-- a call is under way that cannot go on by itself
+abbrev pub IsBusy : State → Option ℕ → Type 0
+IsBusy s None = ⊥
+IsBusy s (Some o) = owner_enabling s (owner_at s o).works.wait (owner_at s o).session ≡ Never

@@ -10,6 +10,7 @@ mod majority;
 mod marks;
 mod next;
 mod opening;
+mod refusing;
 mod owner;
 mod stage;
 

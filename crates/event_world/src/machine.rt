@@ -79,6 +79,7 @@ impl Machine {
     pub fn owner(&self, number: u32) -> Option<&Owner>
         ensures found { IfSome result (λ found. found.now ≡ owner_at (state_of self.now) number) }
         ensures missing { IfNone result (owner_at (state_of self.now) number ≡ no_owner) }
+        ensures within { IfSome result (λ _. (1 ≤ number) × (number ≤ length self.now.owners.items)) }
     {
         let place = number.checked_sub(1)?;
         self.owners.get(place as usize)

@@ -1,13 +1,14 @@
 //! A register call as an owner of messages.
 
-ghost use Rattle.std.specs.Prelude.{◌≡◌, ◌+◌, ◌-◌, ◌<◌, ◌≤◌, ◌++◌, true, false, set, length, Some, None, IfSome, IfNone};
-ghost use Rattle.event_world.specs.Parts.{seen_of, call_owner, nobody_asked, register_in};
+ghost use Rattle.std.specs.Prelude.{◌≡◌, ◌+◌, ◌-◌, ◌<◌, ◌≤◌, ◌++◌, true, false, set, length, Some, None, IfSome, IfNone, IsFalse};
+ghost use Rattle.event_world.specs.Parts.{seen_of, call_owner, nobody_asked, register_in, IsRegister};
 ghost use Rattle.gryff_quorum.specs.Heard.{HasSmallStamps};
 ghost use Rattle.rss_tables.specs.Outs.{target_slot, slot_replica};
 ghost use Rattle.rss_tables.specs.Round.{hears};
 ghost use Rattle.rss_tables.specs.RegisterSession.{reply_cell, session_after, session_sends, phase_end};
 ghost use Rattle.rss_machine.specs.Slots.{slot_in, with_current};
-ghost use Rattle.rss_machine.specs.Enabling.{owner_enabling, is_possible};
+ghost use Rattle.rss_machine.specs.Enabling.{owner_enabling};
+ghost use Rattle.rss_machine.specs.declared.turn.Enabling.TheVariants.{Never};
 ghost use Rattle.rss_machine.specs.State.{State, dated, no_currents};
 ghost use Rattle.rss_machine.specs.declared.session.Session.TheVariants as session;
 ghost use Rattle.rss_machine.specs.declared.state.OwnerFate.TheVariants.{Running, Ended};
@@ -97,7 +98,8 @@ impl Owner {
 
     /// Its round under way.
     pub fn phase(&self) -> RegPhase
-        ensures { result ≡ (register_in self.now.session).phase }
+        ensures phase { result ≡ (register_in self.now.session).phase }
+        ensures register { IsRegister self.now }
     {
         self.session.phase()
     }
@@ -118,7 +120,8 @@ impl Owner {
 
     /// Whether it can go on by itself: a register call waits for replies alone.
     pub fn can_act(&self) -> bool
-        ensures { (s : State) → is_possible (owner_enabling s self.now.works.wait self.now.session) ≡ result }
+        ensures never { IsFalse result }
+        ensures waits { (s : State) → owner_enabling s self.now.works.wait self.now.session ≡ Never }
     {
         let _ = &self.session;
         false
@@ -151,7 +154,6 @@ impl Owner {
     pub fn hear(&mut self, replica: ReplicaId, reply: &Reply, out: &mut Outbox)
         requires room { 7 ≤ out.old.room }
         requires small { HasSmallStamps (hears (register_in self.old.session).round replica (reply_cell reply.now)) }
-        ensures call { self.old.session ≡ session.Register (register_in self.old.session) }
         ensures hears { self.new ≡ record self.old { currents = set self.old.currents (replica - 1) None; session = session.Register (session_after (register_in self.old.session) replica reply.now) } }
         ensures sends { out.new.requests ≡ out.old.requests ++ session_sends (register_in self.old.session) replica reply.now }
         ensures room { out.new.room + length (session_sends (register_in self.old.session) replica reply.now) ≡ out.old.room }
