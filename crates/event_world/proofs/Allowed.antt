@@ -3,6 +3,7 @@ use Rattle.std.proofs.Common.{◌≡◌, ℕ, zero, suc, ◌+◌, ◌-◌, ◌<�
 use Rattle.std.proofs.lemmas.Bool.Decides.{nat_tests}
 use Rattle.pipeline_lang.specs.declared.config.Config.{Config}
 use Rattle.pipeline_lang.specs.declared.script.Statement.{Statement}
+use Rattle.pipeline_lang.specs.declared.script.Statement.TheVariants as statement
 use Rattle.rss_names.specs.declared.service.Key.{Key}
 use Rattle.truetime.specs.Reading.{Reading as At}
 use Rattle.truetime.specs.TrueMoment.{admits}
@@ -62,7 +63,56 @@ act_refused c s n at may living enabled = rw (living, enabled) (by_whether may a
 
 -- what a statement begins
 pub register_calls : (statement : Statement ℕ Key ℕ ℕ) → is_call (next_from statement) ≡ true → is_register_call statement ≡ true
-register_calls statement h = by_next statement h
+register_calls (statement.Read variable key) h = refl
+register_calls (statement.Write key value) h = refl
+register_calls _ h = absurd (cc)
+
+-- the parts of a refusal that there is not
+pub record IsAllowed (c : Config) (s : State) (step : Step) : Type 0 where
+  pub log : s.steps < c.max_steps
+  pub reading : admits s.moment step.at ≡ true
+  pub built : is_built_step step.kind ≡ true
+  pub kind : kind_refusal c (ticks s step.at) step.at step.kind ≡ None
+
+-- a refusal of a kind does not depend on the clock
+kind_ticks : (c : Config) (s : State) (now at : At) (kind : StepKind) → kind_refusal c (ticks s now) at kind ≡ kind_refusal c s at kind
+kind_ticks c s now at (Act n) = refl
+kind_ticks c s now at (Go m) = refl
+kind_ticks c s now at (Lose m) = refl
+kind_ticks c s now at (Again m) = refl
+kind_ticks c s now at (Kill n) = refl
+kind_ticks c s now at (Stub n) = refl
+
+if_none : (b : Bool) (cause : Option StepRefusal) → if_built b cause ≡ None → (b ≡ true) × (cause ≡ None)
+if_none true cause h = (refl, h)
+if_none false cause h = absurd (cc)
+
+by_parts : (full admitted : Bool) (c : Config) (s : State) (step : Step) → nat_le c.max_steps s.steps ≡ full → admits s.moment step.at ≡ admitted → (cause : StepRefusal) → (if full then Some LogFull else (if admitted then if_built (is_built_step step.kind) (kind_refusal c s step.at step.kind) else Some cause)) ≡ None → IsAllowed c s step
+by_parts true admitted c s step f a cause h = absurd (cc)
+by_parts false true c s step f a cause h =
+    let p = if_none (is_built_step step.kind) (kind_refusal c s step.at step.kind) h in
+    record { log = grind (arith, nat_tests, f); reading = a; built = p.0; kind = kind_ticks c s step.at step.at step.kind ∙ p.1 }
+by_parts false false c s step f a cause h = absurd (cc)
+
+pub allowed_parts : (c : Config) (s : State) (step : Step) → built_refusal c s step ≡ None → IsAllowed c s step
+unfolding built_refusal
+allowed_parts c s step h = by_parts (nat_le c.max_steps s.steps) (admits s.moment step.at) c s step refl refl _ h
+
+-- what is allowed while some kinds are not built is allowed by the tables
+still_allowed : (full admitted built : Bool) (kind : Option StepRefusal) (cause : StepRefusal) → (if full then Some LogFull else (if admitted then if_built built kind else Some cause)) ≡ None → (if full then Some LogFull else (if admitted then kind else Some cause)) ≡ None
+still_allowed true admitted built kind cause h = absurd (cc)
+still_allowed false true built kind cause h = (if_none built kind h).1
+still_allowed false false built kind cause h = absurd (cc)
+
+pub never_refused : (c : Config) (s : State) (step : Step) → built_refusal c s step ≡ None → refusal c s step ≡ None
+unfolding built_refusal refusal
+never_refused c s step h = still_allowed (nat_le c.max_steps s.steps) (admits s.moment step.at) (is_built_step step.kind) (kind_refusal c s step.at step.kind) _ h
+
+-- an act that is not refused is of a stage that can act
+pub acts_allowed : (c : Config) (s : State) (n : ℕ) (at : At) (may : Bool) → kind_refusal c s at (Act n) ≡ None → act_enabling c s n ≡ whether may → may ≡ true
+acts_allowed c s n at may h enabled = by_over (is_over (stage_at s n).life) may refl (ap (λ (e : Enabling). if is_over (stage_at s n).life then Some StageOver else unless_enabled (is_enabled_at e at.earliest)) (sym enabled) ∙ h)
   where
-    by_next : (statement : Statement ℕ Key ℕ ℕ) → is_call (next_from statement) ≡ true → is_register_call statement ≡ true
-    by_next statement h = ?
+    by_over : (over may : Bool) → is_over (stage_at s n).life ≡ over → (if over then Some StageOver else unless_enabled (is_enabled_at (whether may) at.earliest)) ≡ None → may ≡ true
+    by_over true may e q = absurd (cc)
+    by_over false true e q = refl
+    by_over false false e q = absurd (cc)

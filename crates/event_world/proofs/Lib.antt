@@ -9,3 +9,5 @@ pub mod StartsSo
 pub mod Receives
 pub mod Readying
 pub mod Allowed
+pub mod Standings
+pub mod Waits

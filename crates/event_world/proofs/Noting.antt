@@ -118,3 +118,15 @@ noted_before registers notes key replicas step old = elim (within key.index regi
     outside h =
         let past : length all ≤ key.index = let e = length_marks 0 registers notes in omega (arith, h, e) in
         sym (set_past all key.index (noted replicas key step (get_or all key.index [])) past)
+
+-- the notes of a register of the file, and of one that it lacks
+pub marks_there : (registers : ℕ) (notes : List Note) (i : ℕ) → i < registers → get_or (marks_from 0 registers notes) i [] ≡ marks_of i notes
+marks_there registers notes i h = get_marks 0 registers notes i h ∙ ap (λ (n : ℕ). marks_of n notes) (omega arith)
+
+get_past : {X : Type 0} (xs : List X) (i : ℕ) (d : X) → length xs ≤ i → get_or xs i d ≡ d
+get_past [] i d h = refl
+get_past (x ∷ xs) zero d h = absurd (omega (arith, h))
+get_past (x ∷ xs) (suc i) d h = get_past xs i d (omega (arith, h))
+
+pub no_marks_there : (registers : ℕ) (notes : List Note) (i : ℕ) → registers ≤ i → get_or (marks_from 0 registers notes) i [] ≡ []
+no_marks_there registers notes i h = get_past (marks_from 0 registers notes) i [] (let e = length_marks 0 registers notes in omega (arith, h, e))

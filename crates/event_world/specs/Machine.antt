@@ -22,15 +22,19 @@ state_of m = record {
   history = m.history.items;
 }
 
--- there is room for all that one step can add
+-- there is room for all that a step can add but its true moment
 pub record HasRoom (m : Machine) : Type 0 where
-  pub moments : vec_len m.moments + 1 ≤ vec_capacity m.moments
   pub owners : vec_len m.owners + 1 ≤ vec_capacity m.owners
   pub net : 7 ≤ m.net.room
   pub notes : vec_len m.notes + 1 ≤ vec_capacity m.notes
   pub history : vec_len m.history + 2 ≤ vec_capacity m.history
   pub outbox : 7 ≤ m.outbox.room
   pub shown : vec_len m.shown + 1 ≤ vec_capacity m.shown
+
+-- there is room for all that one step can add
+pub record HasStepRoom (m : Machine) : Type 0 where
+  pub moments : vec_len m.moments + 1 ≤ vec_capacity m.moments
+  pub rest : HasRoom m
 
 -- the same as a test
 abbrev pub has_room : Machine → Bool

@@ -11,6 +11,7 @@ use Rattle.gryff_quorum.specs.Heard.{HasSmallStamps}
 use Rattle.built_laws.specs.Ready.{is_built_target, is_call_request, is_register_call}
 use Rattle.rss_machine.specs.Built.{is_built, built_service, built_replicas}
 use Rattle.rss_machine.specs.Enabling.{next_statement, owner_enabling}
+use Rattle.rss_machine.specs.Endings.{awaits_in}
 use Rattle.rss_machine.specs.declared.turn.Enabling.TheVariants.{Never}
 use Rattle.rss_machine.specs.State.{State, stage_at, owner_at}
 use Rattle.event_world.specs.declared.machine.Machine.{Machine}
@@ -40,3 +41,13 @@ pub record IsReady (c : Config) (m : Machine) : Type 0 where
 abbrev pub IsBusy : State → Option ℕ → Type 0
 IsBusy s None = ⊥
 IsBusy s (Some o) = owner_enabling s (owner_at s o).works.wait (owner_at s o).session ≡ Never
+
+-- a call under way is one of a register, or it has nothing under way
+abbrev pub IsQuiet : State → Option ℕ → Type 0
+IsQuiet s None = Unit {0}
+IsQuiet s (Some o) = awaits_in (owner_at s o).session ≡ None
+
+-- a stage has no stub, and waits for no other stage, pipe or call
+pub record IsPlain (s : State) (n : ℕ) : Type 0 where
+  pub stub : (stage_at s n).stub ≡ None
+  pub quiet : IsQuiet s (stage_at s n).owner

@@ -97,8 +97,8 @@ impl Machine {
         self.history.push(Entry::Begin(id, stage, op)).unwrap();
     }
 
-    // What a stage has seen; one that the file lacks has seen nothing.
-    fn context_of(&self, stage: StageId) -> RegisterContext
+    /// What a stage has seen; one that the file lacks has seen nothing.
+    pub fn context_of(&self, stage: StageId) -> RegisterContext
         ensures { seen_of result ≡ (stage_at (state_of self.now) stage).context }
     {
         match self.stage(stage) {

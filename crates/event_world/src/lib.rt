@@ -10,9 +10,12 @@ mod majority;
 mod marks;
 mod next;
 mod opening;
+mod reading;
 mod refusing;
 mod owner;
 mod stage;
+mod standing;
+mod taking;
 
 pub use context::RegisterContext;
 pub use owner::Owner;

@@ -2,7 +2,7 @@
 
 ghost use Rattle.std.specs.Prelude.{◌≡◌, ◌+◌, ◌-◌, ◌<◌, ◌≤◌, ◌^◌, [], ◌∷◌, ◌++◌, length, true, OnOk, IfSome, IfNone, vec_len, vec_capacity, set, map, Some, None};
 ghost use Rattle.std.specs.List.{list_all};
-ghost use Rattle.event_world.specs.Machine.{state_of, HasRoom, SameButRoom};
+ghost use Rattle.event_world.specs.Machine.{state_of, HasStepRoom, SameButRoom};
 ghost use Rattle.event_world.specs.Moves.{asking};
 ghost use Rattle.event_world.specs.Next.{next_from, is_call};
 ghost use Rattle.event_world.specs.Targets.{is_to_replica, IsReplica};
@@ -55,7 +55,7 @@ pub struct Machine {
 impl Machine {
     /// Makes room for all that one step can add.
     pub fn make_room(&mut self) -> Result<(), AllocError>
-        ensures room { OnOk result (HasRoom self.new) }
+        ensures room { OnOk result (HasStepRoom self.new) }
         ensures same { SameButRoom self.old self.new }
     {
         self.moments.reserve(1)?;

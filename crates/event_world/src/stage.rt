@@ -1,10 +1,11 @@
 //! A stage: its life, where its script stands, and what it has seen.
 
-ghost use Rattle.std.specs.Prelude.{◌≡◌, ◌+◌, ◌<◌, ◌^◌, true, Some, None, IfOk};
+ghost use Rattle.std.specs.Prelude.{◌≡◌, ◌+◌, ◌<◌, ◌^◌, true, false, Some, None, IfOk};
 ghost use Rattle.std.specs.Option.{option_to_list};
 ghost use Rattle.event_world.specs.Next.{statement_of, with_shown, is_call};
 ghost use Rattle.event_world.specs.Parts.{seen_of};
-ghost use Rattle.rss_machine.specs.State.{opening_stage};
+ghost use Rattle.rss_machine.specs.Standing.{state_of_stage};
+ghost use Rattle.rss_machine.specs.State.{State, opening_stage};
 ghost use Rattle.rss_machine.specs.declared.state.Life.TheVariants.{Live, Over};
 ghost use Rattle.rss_model.specs.CallStatement.{after_call};
 ghost use Rattle.rss_model.specs.Walk.{all_zero};
@@ -12,7 +13,7 @@ ghost use Rattle.rss_model.specs.declared.history.How.TheVariants.{Exited};
 
 use crate::context::RegisterContext;
 use crate::next::Next;
-use rss_machine::Life;
+use rss_machine::{Life, StageState};
 use rss_model::How;
 use std::alloc::{AllocError, Global};
 use std::marker::Model;
@@ -89,6 +90,27 @@ impl Stage {
         ensures { result ≡ self.now.acts }
     {
         self.acts
+    }
+
+    /// How it stands.
+    pub fn standing(&self) -> StageState
+        ensures { (s : State) → state_of_stage s self.now ≡ result }
+    {
+        match self.life {
+            Life::Unborn => StageState::Unborn,
+            Life::Live => StageState::Live,
+            Life::Over(How::Exited) => StageState::Exited,
+            Life::Over(how) => StageState::Ended(how, None),
+        }
+    }
+
+    /// Whether its stub can go on by itself: it has none.
+    pub fn stub_can_act(&self) -> bool
+        ensures never { result ≡ false }
+        ensures none { self.now.stub ≡ None }
+    {
+        let _ = &self.life;
+        false
     }
 
     /// It makes one act more.
