@@ -99,13 +99,13 @@ begins_built c s n at op w used replicas tries seen service same starts =
     let here : owner_at u o ≡ own = get_end s.owners own no_owner in
     let deps : (owner_at u o).works.copy.deps ≡ [] = ap (λ (x : Owner). x.works.copy.deps) here ∙ ap (λ (x : Seen). x.deps) seen in
     let through : goes_through c u o at (owner_at u o).works.left ≡ goes_on_as c u o at op (owner_at u o) =
-        ap (λ (x : Owner). goes_through c u o at x.works.left) here ∙ ap (λ (x : Owner). works_over c u o at x.kind) here in
+    ap (λ (x : Owner). goes_through c u o at x.works.left) here ∙ ap (λ (x : Owner). works_over c u o at x.kind) here in
     let begun : goes_on_as c u o at op (owner_at u o) ≡ starts_call c u o at op = ap (goes_on_as c u o at op) here in
     let r : RegSession = first_session o w in
     let session_is : session_for c u o w built_service ≡ r = ap (λ (k : ℕ). session_as c o w k (owner_at u o)) replicas ∙ ap (session_as c o w built_replicas) here ∙ ap (opening_session o w built_service built_replicas) (cut_none c.tries tries) in
     let sent : launches_register c u o w built_service ≡ launched u o r (awaited (round_requests r)) (owner_at u o) = ap (λ (x : RegSession). launched u o x (awaited (round_requests x)) (owner_at u o)) session_is in
     let put : launched u o r (awaited (round_requests r)) own ≡ begins s n op w =
-        rw (set_end s.owners own (record own { session = session.Register r; dates = record own.dates { launched = u.steps } }), same) refl in
+    rw (set_end s.owners own (record own { session = session.Register r; dates = record own.dates { launched = u.steps } }), same) refl in
     ap (λ (x : State). goes_through c x o at (owner_at x o).works.left) opened ∙ through ∙ begun ∙ starts u o deps ∙ sent ∙ ap (launched u o r (awaited (round_requests r))) here ∙ put
 
 -- a stage exits

@@ -11,3 +11,5 @@ pub mod Readying
 pub mod Allowed
 pub mod Standings
 pub mod Waits
+pub mod Keeping
+pub mod Planned

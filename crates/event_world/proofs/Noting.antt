@@ -91,10 +91,12 @@ noted_now registers notes more key replicas step mark m e new =
   where
     all : List (List Mark)
     all = marks_from 0 registers notes
+
     inside : key.index < registers → set all key.index (marks_of key.index notes ++ mark ∷ []) ≡ set all key.index (noted replicas key step (get_or all key.index []))
     inside h =
         let here : get_or all key.index [] ≡ marks_of key.index notes = get_marks 0 registers notes key.index h ∙ ap (λ (n : ℕ). marks_of n notes) (omega arith) in
         ap (set all key.index) (rw m (sym (by_test (is_noted (marks_of key.index notes) (majority_stamp replicas key)) (marks_of key.index notes) (marks_of key.index notes ++ record { stamp = majority_stamp replicas key; step = step } ∷ []) new)) ∙ ap (noted replicas key step) (sym here))
+
     outside : registers ≤ key.index → set all key.index (marks_of key.index notes ++ mark ∷ []) ≡ set all key.index (noted replicas key step (get_or all key.index []))
     outside h =
         let past : length all ≤ key.index = let e = length_marks 0 registers notes in omega (arith, h, e) in
@@ -108,12 +110,14 @@ noted_before registers notes key replicas step old = elim (within key.index regi
   where
     all : List (List Mark)
     all = marks_from 0 registers notes
+
     inside : key.index < registers → all ≡ set all key.index (noted replicas key step (get_or all key.index []))
     inside h =
         let here : get_or all key.index [] ≡ marks_of key.index notes = get_marks 0 registers notes key.index h ∙ ap (λ (n : ℕ). marks_of n notes) (omega arith) in
         let same : noted replicas key step (get_or all key.index []) ≡ get_or all key.index [] =
-            ap (noted replicas key step) here ∙ by_true (is_noted (marks_of key.index notes) (majority_stamp replicas key)) (marks_of key.index notes) (marks_of key.index notes ++ record { stamp = majority_stamp replicas key; step = step } ∷ []) old ∙ sym here in
+        ap (noted replicas key step) here ∙ by_true (is_noted (marks_of key.index notes) (majority_stamp replicas key)) (marks_of key.index notes) (marks_of key.index notes ++ record { stamp = majority_stamp replicas key; step = step } ∷ []) old ∙ sym here in
         sym (ap (set all key.index) same ∙ set_same all key.index [])
+
     outside : registers ≤ key.index → all ≡ set all key.index (noted replicas key step (get_or all key.index []))
     outside h =
         let past : length all ≤ key.index = let e = length_marks 0 registers notes in omega (arith, h, e) in

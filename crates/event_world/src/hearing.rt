@@ -41,13 +41,7 @@ impl Machine {
     }
 
     // A call replies with this, and leaves its stage this context.
-    fn reply(
-        &mut self,
-        config: &Config,
-        call: u32,
-        shown: Option<Shown>,
-        context: RegisterContext,
-    )
+    fn reply(&mut self, config: &Config, call: u32, shown: Option<Shown>, context: RegisterContext)
         requires call { 1 ≤ call }
         requires last { call ≤ length self.old.owners.items }
         requires built { is_built config.now ≡ true }

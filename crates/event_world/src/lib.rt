@@ -4,19 +4,18 @@
 mod acts;
 mod context;
 mod deliveries;
-mod machine;
 mod hearing;
+mod machine;
 mod majority;
 mod marks;
 mod next;
 mod opening;
+mod owner;
 mod reading;
 mod refusing;
-mod owner;
 mod stage;
 mod standing;
 mod taking;
+mod world;
 
-pub use context::RegisterContext;
-pub use owner::Owner;
-pub use stage::Stage;
+pub use world::World;

@@ -1,6 +1,6 @@
 //! What the layers above ask of calls and stages.
 
-ghost use Rattle.std.specs.Prelude.{◌≡◌, Some, None, IfNone};
+ghost use Rattle.std.specs.Prelude.{◌≡◌, true, Some, None, IfNone};
 ghost use Rattle.carstamps.specs.declared.carstamp.Carstamp.{Carstamp as Stamp};
 ghost use Rattle.event_world.specs.Asked.{blocked_by};
 ghost use Rattle.event_world.specs.Machine.{state_of};
