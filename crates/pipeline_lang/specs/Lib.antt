@@ -8,3 +8,4 @@ pub mod Scripts
 pub mod Printing
 pub mod Spelled
 pub mod Grammar
+pub mod Counts

@@ -29,3 +29,4 @@ pub mod RowsPolicy
 pub mod RowsWithheld
 pub mod Samples
 pub mod Serial
+pub mod Budget

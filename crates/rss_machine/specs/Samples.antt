@@ -10,6 +10,7 @@ use Rattle.rss_model.specs.Cursor.{statements_to_end}
 use Rattle.rss_model.specs.Walk.{all_zero}
 use Rattle.rss_tables.specs.ReplicaRow.{replica_after, replica_reply}
 use Rattle.rss_tables.specs.ShardRow.{shard_after, shard_reply}
+use Rattle.rss_machine.specs.Budget.{budget}
 use Rattle.rss_machine.specs.Drivers.{driver_steps, killed_instead}
 use Rattle.rss_machine.specs.Effect.{effect}
 use Rattle.rss_machine.specs.Generated.{generated_addend, generated_file}
@@ -95,6 +96,14 @@ repeated = refl
 
 no-room-for-two : driver_steps (turn.Step (Go 5)) false fate.Lose true ≡ Go 5 ∷ []
 no-room-for-two = refl
+
+-- the budget: of a script of two statements over three replicas, and of one statement over a shard of
+-- which three requests are withheld
+budget-smallest : budget smallest_file ≡ 212
+budget-smallest = refl
+
+budget-withheld : budget tries_three_lost_file ≡ 236
+budget-withheld = refl
 
 -- the generated file
 addend-500 : generated_addend 500 ≡ 958

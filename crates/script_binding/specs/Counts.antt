@@ -1,6 +1,7 @@
--- how much a script does, as if every `when` held
-use Rattle.std.specs.Prelude.{ℕ, ◌+◌, ◌-◌, ◌*◌, if◌then◌else◌, Bool, true, false, ◌&&◌, nat_le, List, [], ◌∷◌, ◌++◌, length, get_or, take}
-use Rattle.pipeline_lang.specs.declared.script.Statement.TheVariants.{Read, Write, Snap, Txn, Fence, Repeat, When, End}
+-- how many calls a script makes, as if every `when` held, and the sums over the scripts of a file
+use Rattle.std.specs.Prelude.{ℕ, ◌+◌, if◌then◌else◌, Bool, true, false, ◌&&◌, nat_le, List, [], ◌∷◌}
+use Rattle.pipeline_lang.specs.declared.script.Statement.TheVariants.{Read, Write, Snap, Txn, Fence}
+use Rattle.pipeline_lang.specs.Counts.{turns_after, outer_after, executed}
 use Rattle.script_binding.specs.declared.tally.Tally.{Tally}
 use Rattle.script_binding.specs.Environment.{Bound}
 
@@ -13,34 +14,11 @@ is_call (Txn pairs guard writes) = true
 is_call Fence = true
 is_call s = false
 
--- the turns round the statement below: `outer` has the turns round each open block, the innermost last
-abbrev pub turns_after : ℕ → List ℕ → Bound → ℕ
-turns_after turns outer (Repeat n) = turns * n
-turns_after turns outer End = get_or outer (length outer - 1) 1
-turns_after turns outer s = turns
-
--- the turns round each block that is open below a statement
-abbrev pub outer_after : ℕ → List ℕ → Bound → List ℕ
-outer_after turns outer (Repeat n) = outer ++ turns ∷ []
-outer_after turns outer (When c) = outer ++ turns ∷ []
-outer_after turns outer End = take (length outer - 1) outer
-outer_after turns outer s = outer
-
--- how many statements are executed, each as often as the turns round it
-abbrev pub executed_from : ℕ → List ℕ → List Bound → ℕ
-executed_from turns outer [] = 0
-executed_from turns outer (s ∷ ss) =
-    turns + executed_from (turns_after turns outer s) (outer_after turns outer s) ss
-
 -- how many calls and fence statements are executed
 abbrev pub called_from : ℕ → List ℕ → List Bound → ℕ
 called_from turns outer [] = 0
 called_from turns outer (s ∷ ss) =
     (if is_call s then turns else 0) + called_from (turns_after turns outer s) (outer_after turns outer s) ss
-
--- how many statements a script executes
-abbrev pub executed : List Bound → ℕ
-executed script = executed_from 1 [] script
 
 -- how many calls and fence statements a script executes
 abbrev pub called : List Bound → ℕ

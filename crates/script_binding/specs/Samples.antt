@@ -11,7 +11,8 @@ use Rattle.script_binding.specs.declared.fault.ScriptFaultKind.{ScriptFaultKind}
 use Rattle.script_binding.specs.declared.fault.ScriptFaultKind.TheVariants.{OverLimit, UnknownName, ServiceShape, DoubleName, SpawnShape, PipeShape}
 use Rattle.script_binding.specs.declared.fault.ScriptFault.{ScriptFault}
 use Rattle.script_binding.specs.declared.mention.Role.TheVariants as role
-use Rattle.script_binding.specs.Counts.{executed, called}
+use Rattle.pipeline_lang.specs.Counts.{executed}
+use Rattle.script_binding.specs.Counts.{called}
 use Rattle.script_binding.specs.Environment.{Bound}
 use Rattle.script_binding.specs.Mentions.{mention, mentions}
 use Rattle.script_binding.specs.Naming.{Naming}

@@ -1,7 +1,8 @@
 //! How much the scripts of a file do, as if every `when` held.
 
 ghost use Rattle.std.specs.Prelude.{◌≡◌, ◌≤◌, ◌-◌, ◌*◌, ◌^◌, ◌++◌, [], ◌∷◌, length, get_or, take, IfOk, OnOk, IsTrue, Ok, true};
-ghost use Rattle.script_binding.specs.Counts.{is_call, turns_after, outer_after, nothing, tallied, is_within};
+ghost use Rattle.pipeline_lang.specs.Counts.{turns_after, outer_after};
+ghost use Rattle.script_binding.specs.Counts.{is_call, nothing, tallied, is_within};
 
 use crate::environment::BoundStatement;
 use pipeline_lang::{Script, Statement};

@@ -1,5 +1,6 @@
 use Rattle.std.proofs.Common.{◌≡◌, ◌≤◌, ◌+◌, ◌*◌, ◌^◌, drop}
-use Rattle.script_binding.specs.Counts.{executed, executed_from, called, called_from}
+use Rattle.pipeline_lang.specs.Counts.{executed, executed_from}
+use Rattle.script_binding.specs.Counts.{called, called_from}
 use Rattle.script_binding.proofs.tally.Tally.add.Given as goal
 
 -- what was counted and what is left to count are the whole
