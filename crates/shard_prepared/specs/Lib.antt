@@ -1,2 +1,6 @@
 pub mod PreparedView
+pub mod Ascending
+pub mod KeyIndex
+pub mod Orders
+pub mod Sifted
 pub mod Kept

@@ -1,8 +1,12 @@
 //! Code: the prepared writers of a shard, and which of them a snapshot waits for or passes by.
 #![tactic(auto)]
 
+mod index;
+mod search;
 mod sifting;
 mod table;
+#[cfg(test)]
+mod tests;
 mod writer;
 
 pub use table::PreparedTable;

@@ -1,76 +1,162 @@
 //! Which prepared writers a snapshot waits for, and which it passes by.
 
-ghost use Rattle.std.specs.Prelude.{◌≡◌, ◌≤◌, length, vec_len, vec_capacity};
-ghost use Rattle.rss_tables.specs.Locks.{has_key as key_is_among};
-ghost use Rattle.rss_tables.specs.Prepared.{writes_any as writes_one_of, is_asked_about as may_stand_below, must_wait_for as blocks, blocking as ones_blocking, passed_by as ones_passed, named_blocking, named_skipped};
+ghost use Rattle.std.specs.Prelude.{◌≡◌, ◌+◌, ◌≤◌, [], true, Some, length, vec_len, vec_capacity};
+ghost use Rattle.rss_tables.specs.Attempts.{attempt_lt};
+ghost use Rattle.rss_tables.specs.Prepared.{prepared_of, prepared_attempts, must_wait_for as must_wait};
+ghost use Rattle.shard_prepared.specs.Ascending.{ascends};
+ghost use Rattle.shard_prepared.specs.KeyIndex.{writer_lt};
+ghost use Rattle.shard_prepared.specs.Sifted.{with_entry, with_entries, with_keys, holder_lt, skipped_lt, holder_of, skipped_of, blocks, is_passed};
 
-use crate::writer::PreparedWriter;
-use rss_names::{Key, is_same_key};
+use crate::index::{KeyWriter, find_writers};
+use crate::search::{Ordered, put};
+use crate::writer::{PreparedWriter, find_entry};
+use rss_names::{Attempt, Key, is_attempt_before};
 use rss_wire::{Holder, Skipped};
 
-/// Whether a key is among others.
-fn has_key(keys: &[Key], key: Key) -> bool
-    ensures { result ≡ key_is_among keys.now key }
-{
-    keys.iter().any(|other| is_same_key(key, *other))
+/// The time at which a snapshot reads, a time that it has seen, and whether it may pass writers by.
+#[derive(Clone, Copy)]
+pub struct SnapshotRead {
+    pub read_time: u64,
+    pub least: u64,
+    pub skip: bool,
 }
 
-/// Whether a prepared attempt writes one of these keys.
-fn writes_any(keys: &[Key], writer: &PreparedWriter) -> bool
-    ensures { result ≡ writes_one_of keys.now writer.now }
-{
-    writer.writes().iter().any(|write| has_key(keys, write.0))
+impl Ordered for Holder {
+    ghost use Rattle.shard_prepared.specs.Sifted.{holder_lt};
+    ghost use Rattle.shard_prepared.specs.Orders.{holders-transitive};
+
+    ghost before = { holder_lt };
+
+    ghost transitive = { holders-transitive };
+
+    fn is_before(&self, other: &Holder) -> bool {
+        is_attempt_before(self.attempt, other.attempt)
+    }
 }
 
-/// Whether a prepared writer of asked keys may stand at or below the read time.
-fn is_asked_about(keys: &[Key], read_time: u64, writer: &PreparedWriter) -> bool
-    ensures { result ≡ may_stand_below keys.now read_time writer.now }
-{
-    writes_any(keys, writer) && writer.prepare_time() <= read_time
+impl Ordered for Skipped {
+    ghost use Rattle.shard_prepared.specs.Sifted.{skipped_lt};
+    ghost use Rattle.shard_prepared.specs.Orders.{skipped-transitive};
+
+    ghost before = { skipped_lt };
+
+    ghost transitive = { skipped-transitive };
+
+    fn is_before(&self, other: &Skipped) -> bool {
+        is_attempt_before(self.attempt, other.attempt)
+    }
 }
 
-/// Whether a reader must wait for a prepared writer: its call may have ended, or the reader may have
-/// seen it.
-fn must_wait_for(read_time: u64, least: u64, skip: bool, writer: &PreparedWriter) -> bool
-    ensures { result ≡ blocks read_time least skip writer.now }
+// Whether a reader must wait for a prepared writer: its call may have ended, or the reader may have
+// seen it.
+fn must_wait_for(read: SnapshotRead, writer: &PreparedWriter) -> bool
+    ensures { result ≡ must_wait read.read_time read.least read.skip writer.now }
 {
-    !skip || writer.prepare_time() <= least || writer.earliest_end() <= read_time
+    !read.skip || writer.prepare_time() <= read.least || writer.earliest_end() <= read.read_time
 }
 
-/// Lists the prepared writers that block a snapshot, and those that it passes by. Both lists have room
-/// for all.
-pub fn sift(
+// Whether a snapshot that asks about a key of this writer must wait for it.
+fn is_in_way(read: SnapshotRead, writer: &PreparedWriter) -> bool
+    ensures { result ≡ blocks read writer.now }
+{
+    writer.prepare_time() <= read.read_time && must_wait_for(read, writer)
+}
+
+// Whether it passes the writer by.
+fn is_passed_by(read: SnapshotRead, writer: &PreparedWriter) -> bool
+    ensures { result ≡ is_passed read writer.now }
+{
+    writer.prepare_time() <= read.read_time && !must_wait_for(read, writer)
+}
+
+// Lists a writer, once, where a snapshot must wait for it.
+fn list_blocking(writer: &PreparedWriter, read: SnapshotRead, blocking: &mut Vec<Holder>)
+    requires ascending { ascends holder_lt blocking.old.items ≡ true }
+    requires room { length (with_entry holder_lt holder_of (blocks read) (Some writer.now) blocking.old.items) ≤ vec_capacity blocking.old }
+    ensures listed { blocking.new.items ≡ with_entry holder_lt holder_of (blocks read) (Some writer.now) blocking.old.items }
+    ensures ascending { ascends holder_lt blocking.new.items ≡ true }
+    ensures room { vec_capacity blocking.old ≤ vec_capacity blocking.new }
+{
+    if is_in_way(read, writer) {
+        let held = Holder {
+            attempt: writer.attempt(),
+            coordinator: writer.coordinator(),
+        };
+        put(blocking, held);
+    }
+}
+
+// Lists a writer, once, where a snapshot passes it by.
+fn list_skipped(writer: &PreparedWriter, read: SnapshotRead, skipped: &mut Vec<Skipped>)
+    requires ascending { ascends skipped_lt skipped.old.items ≡ true }
+    requires room { length (with_entry skipped_lt skipped_of (is_passed read) (Some writer.now) skipped.old.items) ≤ vec_capacity skipped.old }
+    ensures listed { skipped.new.items ≡ with_entry skipped_lt skipped_of (is_passed read) (Some writer.now) skipped.old.items }
+    ensures ascending { ascends skipped_lt skipped.new.items ≡ true }
+    ensures room { vec_capacity skipped.old ≤ vec_capacity skipped.new }
+{
+    if is_passed_by(read, writer) {
+        let held = Skipped {
+            attempt: writer.attempt(),
+            coordinator: writer.coordinator(),
+            prepare_time: writer.prepare_time(),
+        };
+        put(skipped, held);
+    }
+}
+
+// Lists the writers of pairs, each once, where a snapshot must wait for them or passes them by.
+fn list_writers(
     entries: &[PreparedWriter],
-    keys: &[Key],
-    read_time: u64,
-    least: u64,
-    skip: bool,
+    attempts: &[Attempt],
+    writers: &[KeyWriter],
+    read: SnapshotRead,
     blocking: &mut Vec<Holder>,
     skipped: &mut Vec<Skipped>,
 )
-    requires no_blocking { vec_len blocking.old ≡ 0 }
-    requires no_skipped { vec_len skipped.old ≡ 0 }
-    requires blocking_room { length entries.now ≤ vec_capacity blocking.old }
-    requires skipped_room { length entries.now ≤ vec_capacity skipped.old }
-    ensures blocking { blocking.new.items ≡ named_blocking (ones_blocking entries.now keys.now read_time least skip) }
-    ensures skipped { skipped.new.items ≡ named_skipped (ones_passed entries.now keys.now read_time least skip) }
+    requires attempts { attempts.now ≡ prepared_attempts entries.now }
+    requires ascending { ascends attempt_lt attempts.now ≡ true }
+    requires blocking_ascends { ascends holder_lt blocking.old.items ≡ true }
+    requires skipped_ascends { ascends skipped_lt skipped.old.items ≡ true }
+    requires blocking_room { length (with_entries holder_lt holder_of (blocks read) entries.now writers.now blocking.old.items) ≤ vec_capacity blocking.old }
+    requires skipped_room { length (with_entries skipped_lt skipped_of (is_passed read) entries.now writers.now skipped.old.items) ≤ vec_capacity skipped.old }
+    ensures blocking { blocking.new.items ≡ with_entries holder_lt holder_of (blocks read) entries.now writers.now blocking.old.items }
+    ensures skipped { skipped.new.items ≡ with_entries skipped_lt skipped_of (is_passed read) entries.now writers.now skipped.old.items }
+    ensures blocking_ascends { ascends holder_lt blocking.new.items ≡ true }
+    ensures skipped_ascends { ascends skipped_lt skipped.new.items ≡ true }
+    ensures blocking_room { vec_capacity blocking.old ≤ vec_capacity blocking.new }
+    ensures skipped_room { vec_capacity skipped.old ≤ vec_capacity skipped.new }
 {
-    for entry in entries {
-        if is_asked_about(keys, read_time, entry) {
-            if must_wait_for(read_time, least, skip, entry) {
-                let held = Holder {
-                    attempt: entry.attempt(),
-                    coordinator: entry.coordinator(),
-                };
-                blocking.push(held).unwrap();
-            } else {
-                let held = Skipped {
-                    attempt: entry.attempt(),
-                    coordinator: entry.coordinator(),
-                    prepare_time: entry.prepare_time(),
-                };
-                skipped.push(held).unwrap();
-            }
+    for writer in writers {
+        if let Some(entry) = find_entry(entries, attempts, writer.attempt) {
+            list_blocking(entry, read, blocking);
+            list_skipped(entry, read, skipped);
         }
+    }
+}
+
+/// Lists the prepared writers of these keys that block a snapshot, and those that it passes by, each
+/// once and by ascending attempt. Both lists have room for them.
+pub fn sift(
+    entries: &[PreparedWriter],
+    attempts: &[Attempt],
+    index: &[KeyWriter],
+    keys: &[Key],
+    read: SnapshotRead,
+    blocking: &mut Vec<Holder>,
+    skipped: &mut Vec<Skipped>,
+)
+    requires attempts { attempts.now ≡ prepared_attempts entries.now }
+    requires ascending { ascends attempt_lt attempts.now ≡ true }
+    requires index_ascends { ascends writer_lt index.now ≡ true }
+    requires no_blocking { blocking.old.items ≡ [] }
+    requires no_skipped { skipped.old.items ≡ [] }
+    requires blocking_room { length (with_keys holder_lt holder_of (blocks read) entries.now index.now keys.now []) ≤ vec_capacity blocking.old }
+    requires skipped_room { length (with_keys skipped_lt skipped_of (is_passed read) entries.now index.now keys.now []) ≤ vec_capacity skipped.old }
+    ensures blocking { blocking.new.items ≡ with_keys holder_lt holder_of (blocks read) entries.now index.now keys.now [] }
+    ensures skipped { skipped.new.items ≡ with_keys skipped_lt skipped_of (is_passed read) entries.now index.now keys.now [] }
+{
+    for key in keys {
+        let writers = find_writers(index, *key);
+        list_writers(entries, attempts, writers, read, blocking, skipped);
     }
 }

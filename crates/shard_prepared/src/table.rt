@@ -4,19 +4,22 @@ ghost use Rattle.std.specs.Prelude.{◌≡◌, ◌+◌, ◌<◌, ◌≤◌, [], 
 ghost use Rattle.std.specs.Option.{option_copied};
 ghost use Rattle.rss_tables.specs.Prepared.{prepared_of, prepared_attempts, with_prepared, without_prepared, blocking as ones_blocking, passed_by as ones_passed, named_blocking, named_skipped};
 ghost use Rattle.shard_prepared.specs.PreparedView.{has_room};
-ghost use Rattle.shard_prepared.specs.Kept.{place_before as place_before_it, place_of as place_of_it};
 
-use crate::sifting;
-use crate::writer::PreparedWriter;
-use rss_names::{Attempt, Key, is_attempt_before, is_same_attempt};
+use crate::index::{KeyWriter, drop_writes, put_writes};
+use crate::search::{place_of, search};
+use crate::sifting::{self, SnapshotRead};
+use crate::writer::{PreparedWriter, find_entry};
+use rss_names::{Attempt, Key};
 use rss_wire::{Holder, Skipped};
 use std::alloc::{AllocError, Global};
 use std::marker::Model;
 
-/// The prepared writers of a shard, by ascending attempt, no attempt twice.
+/// The prepared writers of a shard, by ascending attempt, no attempt twice, and for each key that one
+/// of them writes the pair of both, by ascending key and attempt.
 pub struct PreparedTable {
     entries: Vec<PreparedWriter>,
     attempts: Vec<Attempt>,
+    index: Vec<KeyWriter>,
     room: Option<usize>,
 }
 
@@ -25,6 +28,7 @@ impl Drop for PreparedTable {
         let PreparedTable {
             entries: _entries,
             attempts: _attempts,
+            index: _index,
             room: _room,
         } = self;
     }
@@ -50,6 +54,7 @@ impl PreparedTable {
         PreparedTable {
             entries: Vec::new(alloc),
             attempts: Vec::new(alloc),
+            index: Vec::new(alloc),
             room: None,
         }
     }
@@ -76,6 +81,7 @@ impl PreparedTable {
     {
         self.entries.reserve(1)?;
         self.attempts.reserve(1)?;
+        self.index.reserve(writes)?;
         self.room = Some(writes);
         Ok(())
     }
@@ -88,7 +94,8 @@ impl PreparedTable {
         ensures used { self.new.room ≡ None }
     {
         let attempt = writer.attempt();
-        let place = place_before(self.attempts.as_slice(), attempt);
+        let place = place_of(self.attempts.as_slice(), &attempt);
+        put_writes(&mut self.index, &writer);
         self.entries.insert(place, writer).unwrap();
         self.attempts.insert(place, attempt).unwrap();
         self.room = None;
@@ -98,11 +105,7 @@ impl PreparedTable {
     pub fn get(&self, attempt: Attempt) -> Option<&PreparedWriter>
         ensures { option_copied result ≡ prepared_of self.now.prepared attempt }
     {
-        let place = place_of(self.attempts.as_slice(), attempt);
-        if place == self.entries.len() {
-            return None;
-        }
-        Some(&self.entries[place])
+        find_entry(self.entries.as_slice(), self.attempts.as_slice(), attempt)
     }
 
     /// Takes the entry of a prepared attempt away. None exactly where it is not prepared. The room
@@ -112,12 +115,15 @@ impl PreparedTable {
         ensures left { self.new.prepared ≡ without_prepared self.old.prepared attempt }
         ensures room { self.new.room ≡ self.old.room }
     {
-        let place = place_of(self.attempts.as_slice(), attempt);
-        if place == self.entries.len() {
-            return None;
+        match search(self.attempts.as_slice(), &attempt) {
+            Ok(place) => {
+                self.attempts.remove(place);
+                let writer = self.entries.remove(place);
+                drop_writes(&mut self.index, &writer);
+                Some(writer)
+            }
+            Err(_) => None,
         }
-        self.attempts.remove(place);
-        Some(self.entries.remove(place))
     }
 
     /// Lists the prepared writers of these keys that block a snapshot, and those that it passes by, by
@@ -138,8 +144,20 @@ impl PreparedTable {
     {
         blocking.clear();
         skipped.clear();
-        let entries = self.entries.as_slice();
-        sifting::sift(entries, keys, read_time, least, skip, blocking, skipped);
+        let read = SnapshotRead {
+            read_time,
+            least,
+            skip,
+        };
+        sifting::sift(
+            self.entries.as_slice(),
+            self.attempts.as_slice(),
+            self.index.as_slice(),
+            keys,
+            read,
+            blocking,
+            skipped,
+        );
     }
 
     /// Nobody is prepared any more. The room is gone. Takes no memory.
@@ -149,32 +167,7 @@ impl PreparedTable {
     {
         self.entries.clear();
         self.attempts.clear();
+        self.index.clear();
         self.room = None;
     }
-}
-
-// The place of an attempt among others in ascending order.
-fn place_before(attempts: &[Attempt], attempt: Attempt) -> usize
-    ensures same { result ≡ place_before_it attempts.now attempt }
-    ensures within { result ≤ length attempts.now }
-{
-    for place in 0..attempts.len() {
-        if is_attempt_before(attempt, attempts[place]) {
-            return place;
-        }
-    }
-    attempts.len()
-}
-
-// How many attempts stand before this one.
-fn place_of(attempts: &[Attempt], attempt: Attempt) -> usize
-    ensures same { result ≡ place_of_it attempts.now attempt }
-    ensures within { result ≤ length attempts.now }
-{
-    for place in 0..attempts.len() {
-        if is_same_attempt(attempt, attempts[place]) {
-            return place;
-        }
-    }
-    attempts.len()
 }

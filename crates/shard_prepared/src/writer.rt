@@ -1,7 +1,12 @@
-//! One prepared attempt.
+//! Prepared attempts.
 
-ghost use Rattle.std.specs.Prelude.{◌≡◌};
+ghost use Rattle.std.specs.Prelude.{◌≡◌, true};
+ghost use Rattle.std.specs.Option.{option_copied};
+ghost use Rattle.rss_tables.specs.Attempts.{attempt_lt};
+ghost use Rattle.rss_tables.specs.Prepared.{prepared_of, prepared_attempts};
+ghost use Rattle.shard_prepared.specs.Ascending.{ascends};
 
+use crate::search::search;
 use rss_names::{Attempt, Key, Seq, ShardId};
 use std::marker::Model;
 
@@ -77,5 +82,22 @@ impl PreparedWriter {
         ensures { result.now ≡ self.now.writes }
     {
         self.writes.as_slice()
+    }
+}
+
+/// The entry of a prepared attempt, found by halves among the attempts. None exactly where it is not
+/// prepared.
+pub fn find_entry<'a>(
+    entries: &'a [PreparedWriter],
+    attempts: &[Attempt],
+    attempt: Attempt,
+) -> Option<&'a PreparedWriter>
+    requires attempts { attempts.now ≡ prepared_attempts entries.now }
+    requires ascending { ascends attempt_lt attempts.now ≡ true }
+    ensures { option_copied result ≡ prepared_of entries.now attempt }
+{
+    match search(attempts, &attempt) {
+        Ok(place) => Some(&entries[place]),
+        Err(_) => None,
     }
 }

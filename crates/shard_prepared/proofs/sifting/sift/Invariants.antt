@@ -1,14 +1,15 @@
-use Rattle.std.proofs.Common.{◌≡◌, ◌++◌, ◌≤◌, drop, length, vec_len, vec_capacity}
-use Rattle.rss_tables.specs.Prepared.{blocking, passed_by, named_blocking, named_skipped}
+use Rattle.std.proofs.Common.{◌≡◌, ◌≤◌, drop, true, [], vec_capacity}
+use Rattle.shard_prepared.specs.Ascending.{ascends}
+use Rattle.shard_prepared.specs.Sifted.{with_keys, holder_lt, skipped_lt, holder_of, skipped_of, blocks, is_passed}
 use Rattle.shard_prepared.proofs.sifting.sift.Given as goal
 
--- those listed, with those among the writers left, are the whole
-abbrev pub invariant-loop-entry : goal.invariant-loop-entry
-invariant-loop-entry l = record {
-  blocking : l.blocking.items ++ named_blocking (blocking (drop l.entry-index l.entries) l.keys l.read_time l.least l.skip) ≡ named_blocking (blocking l.entries l.keys l.read_time l.least l.skip);
-  skipped : l.skipped.items ++ named_skipped (passed_by (drop l.entry-index l.entries) l.keys l.read_time l.least l.skip) ≡ named_skipped (passed_by l.entries l.keys l.read_time l.least l.skip);
-  few_blocking : vec_len l.blocking ≤ l.entry-index;
-  few_skipped : vec_len l.skipped ≤ l.entry-index;
-  blocking_room : length l.entries ≤ vec_capacity l.blocking;
-  skipped_room : length l.entries ≤ vec_capacity l.skipped;
+-- those listed, with those of the keys left, are the whole
+abbrev pub invariant-loop-key : goal.invariant-loop-key
+invariant-loop-key l = record {
+  blocking : with_keys holder_lt holder_of (blocks l.read) l.entries l.index (drop l.key-index l.keys) l.blocking.items ≡ with_keys holder_lt holder_of (blocks l.read) l.entries l.index l.keys [];
+  skipped : with_keys skipped_lt skipped_of (is_passed l.read) l.entries l.index (drop l.key-index l.keys) l.skipped.items ≡ with_keys skipped_lt skipped_of (is_passed l.read) l.entries l.index l.keys [];
+  blocking_ascends : ascends holder_lt l.blocking.items ≡ true;
+  skipped_ascends : ascends skipped_lt l.skipped.items ≡ true;
+  blocking_room : vec_capacity l.fn.blocking ≤ vec_capacity l.blocking;
+  skipped_room : vec_capacity l.fn.skipped ≤ vec_capacity l.skipped;
 }

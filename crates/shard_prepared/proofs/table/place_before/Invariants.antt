@@ -1,7 +1,0 @@
-use Rattle.std.proofs.Common.{◌≡◌, ◌+◌, drop}
-use Rattle.shard_prepared.specs.Kept.{place_before}
-use Rattle.shard_prepared.proofs.table.place_before.Given as goal
-
--- its place is not among those that were passed
-abbrev pub invariant-loop-place : goal.invariant-loop-place
-invariant-loop-place l = place_before l.attempts l.attempt ≡ l.place + place_before (drop l.place l.attempts) l.attempt
