@@ -1,6 +1,2 @@
-pub mod Searching
-pub mod Indexed
-pub mod Entries
-pub mod Found
-pub mod Listed
-pub mod Sieve
+pub mod Alike
+pub mod Sifted

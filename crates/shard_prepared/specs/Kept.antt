@@ -3,8 +3,10 @@ use Rattle.std.specs.Prelude.{◌≡◌, ℕ, ◌+◌, ◌<◌, ◌≤◌, true,
 use Rattle.rss_tables.specs.Attempts.{attempt_lt}
 use Rattle.rss_tables.specs.Prepared.{prepared_attempts}
 use Rattle.shard_prepared.specs.declared.table.PreparedTable.TheInside.{Inside}
-use Rattle.shard_prepared.specs.Ascending.{ascends}
-use Rattle.shard_prepared.specs.KeyIndex.{writer_lt, IsIndexOf}
+use Rattle.attempt_index.specs.Ascending.{ascends}
+use Rattle.attempt_index.specs.Entries.{IsIndexOf}
+use Rattle.attempt_index.specs.KeyIndex.{key_attempt_lt}
+use Rattle.shard_prepared.specs.Written.{attempt_of, keys_of}
 
 -- there is memory for one more with a number of writes
 pub record HasMemory (t : Inside) (writes : ℕ) : Type 0 where
@@ -15,6 +17,6 @@ pub record HasMemory (t : Inside) (writes : ℕ) : Type 0 where
 pub record IsKept (t : Inside) : Type 0 where
   pub attempts : t.attempts.items ≡ prepared_attempts t.entries.items
   pub ascending : ascends attempt_lt t.attempts.items ≡ true
-  pub index_ascends : ascends writer_lt t.index.items ≡ true
-  pub indexed : IsIndexOf t.index.items t.entries.items
+  pub index_ascends : ascends key_attempt_lt t.index.items ≡ true
+  pub indexed : IsIndexOf attempt_of keys_of t.index.items t.entries.items
   pub room : IfSome t.room (HasMemory t)

@@ -1,6 +1,4 @@
 pub mod PreparedView
-pub mod Ascending
-pub mod KeyIndex
-pub mod Orders
+pub mod Written
 pub mod Sifted
 pub mod Kept

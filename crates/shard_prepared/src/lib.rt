@@ -2,7 +2,6 @@
 #![tactic(auto)]
 
 mod index;
-mod search;
 mod sifting;
 mod table;
 #[cfg(test)]

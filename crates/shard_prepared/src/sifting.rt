@@ -2,15 +2,17 @@
 
 ghost use Rattle.std.specs.Prelude.{◌≡◌, ◌+◌, ◌≤◌, [], true, Some, length, vec_len, vec_capacity};
 ghost use Rattle.rss_tables.specs.Attempts.{attempt_lt};
-ghost use Rattle.rss_tables.specs.Prepared.{prepared_of, prepared_attempts, must_wait_for as must_wait};
-ghost use Rattle.shard_prepared.specs.Ascending.{ascends};
-ghost use Rattle.shard_prepared.specs.KeyIndex.{writer_lt};
-ghost use Rattle.shard_prepared.specs.Sifted.{with_entry, with_entries, with_keys, holder_lt, skipped_lt, holder_of, skipped_of, blocks, is_passed};
+ghost use Rattle.rss_tables.specs.Prepared.{prepared_attempts, must_wait_for as must_wait};
+ghost use Rattle.attempt_index.specs.Ascending.{ascends};
+ghost use Rattle.attempt_index.specs.KeyIndex.{key_attempt_lt};
+ghost use Rattle.attempt_index.specs.Orders.{holder_lt, skipped_lt};
+ghost use Rattle.attempt_index.specs.Listing.{listed_one, listed_pairs, listed_keys};
+ghost use Rattle.shard_prepared.specs.Written.{attempt_of};
+ghost use Rattle.shard_prepared.specs.Sifted.{holder_of, skipped_of, blocks, is_passed};
 
-use crate::index::{KeyWriter, find_writers};
-use crate::search::{Ordered, put};
 use crate::writer::{PreparedWriter, find_entry};
-use rss_names::{Attempt, Key, is_attempt_before};
+use attempt_index::{KeyAttempt, find_pairs, put};
+use rss_names::{Attempt, Key};
 use rss_wire::{Holder, Skipped};
 
 /// The time at which a snapshot reads, a time that it has seen, and whether it may pass writers by.
@@ -19,32 +21,6 @@ pub struct SnapshotRead {
     pub read_time: u64,
     pub least: u64,
     pub skip: bool,
-}
-
-impl Ordered for Holder {
-    ghost use Rattle.shard_prepared.specs.Sifted.{holder_lt};
-    ghost use Rattle.shard_prepared.specs.Orders.{holders-transitive};
-
-    ghost before = { holder_lt };
-
-    ghost transitive = { holders-transitive };
-
-    fn is_before(&self, other: &Holder) -> bool {
-        is_attempt_before(self.attempt, other.attempt)
-    }
-}
-
-impl Ordered for Skipped {
-    ghost use Rattle.shard_prepared.specs.Sifted.{skipped_lt};
-    ghost use Rattle.shard_prepared.specs.Orders.{skipped-transitive};
-
-    ghost before = { skipped_lt };
-
-    ghost transitive = { skipped-transitive };
-
-    fn is_before(&self, other: &Skipped) -> bool {
-        is_attempt_before(self.attempt, other.attempt)
-    }
 }
 
 // Whether a reader must wait for a prepared writer: its call may have ended, or the reader may have
@@ -72,8 +48,8 @@ fn is_passed_by(read: SnapshotRead, writer: &PreparedWriter) -> bool
 // Lists a writer, once, where a snapshot must wait for it.
 fn list_blocking(writer: &PreparedWriter, read: SnapshotRead, blocking: &mut Vec<Holder>)
     requires ascending { ascends holder_lt blocking.old.items ≡ true }
-    requires room { length (with_entry holder_lt holder_of (blocks read) (Some writer.now) blocking.old.items) ≤ vec_capacity blocking.old }
-    ensures listed { blocking.new.items ≡ with_entry holder_lt holder_of (blocks read) (Some writer.now) blocking.old.items }
+    requires room { length (listed_one holder_lt holder_of (blocks read) (Some writer.now) blocking.old.items) ≤ vec_capacity blocking.old }
+    ensures listed { blocking.new.items ≡ listed_one holder_lt holder_of (blocks read) (Some writer.now) blocking.old.items }
     ensures ascending { ascends holder_lt blocking.new.items ≡ true }
     ensures room { vec_capacity blocking.old ≤ vec_capacity blocking.new }
 {
@@ -89,8 +65,8 @@ fn list_blocking(writer: &PreparedWriter, read: SnapshotRead, blocking: &mut Vec
 // Lists a writer, once, where a snapshot passes it by.
 fn list_skipped(writer: &PreparedWriter, read: SnapshotRead, skipped: &mut Vec<Skipped>)
     requires ascending { ascends skipped_lt skipped.old.items ≡ true }
-    requires room { length (with_entry skipped_lt skipped_of (is_passed read) (Some writer.now) skipped.old.items) ≤ vec_capacity skipped.old }
-    ensures listed { skipped.new.items ≡ with_entry skipped_lt skipped_of (is_passed read) (Some writer.now) skipped.old.items }
+    requires room { length (listed_one skipped_lt skipped_of (is_passed read) (Some writer.now) skipped.old.items) ≤ vec_capacity skipped.old }
+    ensures listed { skipped.new.items ≡ listed_one skipped_lt skipped_of (is_passed read) (Some writer.now) skipped.old.items }
     ensures ascending { ascends skipped_lt skipped.new.items ≡ true }
     ensures room { vec_capacity skipped.old ≤ vec_capacity skipped.new }
 {
@@ -108,7 +84,7 @@ fn list_skipped(writer: &PreparedWriter, read: SnapshotRead, skipped: &mut Vec<S
 fn list_writers(
     entries: &[PreparedWriter],
     attempts: &[Attempt],
-    writers: &[KeyWriter],
+    writers: &[KeyAttempt],
     read: SnapshotRead,
     blocking: &mut Vec<Holder>,
     skipped: &mut Vec<Skipped>,
@@ -117,10 +93,10 @@ fn list_writers(
     requires ascending { ascends attempt_lt attempts.now ≡ true }
     requires blocking_ascends { ascends holder_lt blocking.old.items ≡ true }
     requires skipped_ascends { ascends skipped_lt skipped.old.items ≡ true }
-    requires blocking_room { length (with_entries holder_lt holder_of (blocks read) entries.now writers.now blocking.old.items) ≤ vec_capacity blocking.old }
-    requires skipped_room { length (with_entries skipped_lt skipped_of (is_passed read) entries.now writers.now skipped.old.items) ≤ vec_capacity skipped.old }
-    ensures blocking { blocking.new.items ≡ with_entries holder_lt holder_of (blocks read) entries.now writers.now blocking.old.items }
-    ensures skipped { skipped.new.items ≡ with_entries skipped_lt skipped_of (is_passed read) entries.now writers.now skipped.old.items }
+    requires blocking_room { length (listed_pairs attempt_of holder_lt holder_of (blocks read) entries.now writers.now blocking.old.items) ≤ vec_capacity blocking.old }
+    requires skipped_room { length (listed_pairs attempt_of skipped_lt skipped_of (is_passed read) entries.now writers.now skipped.old.items) ≤ vec_capacity skipped.old }
+    ensures blocking { blocking.new.items ≡ listed_pairs attempt_of holder_lt holder_of (blocks read) entries.now writers.now blocking.old.items }
+    ensures skipped { skipped.new.items ≡ listed_pairs attempt_of skipped_lt skipped_of (is_passed read) entries.now writers.now skipped.old.items }
     ensures blocking_ascends { ascends holder_lt blocking.new.items ≡ true }
     ensures skipped_ascends { ascends skipped_lt skipped.new.items ≡ true }
     ensures blocking_room { vec_capacity blocking.old ≤ vec_capacity blocking.new }
@@ -139,7 +115,7 @@ fn list_writers(
 pub fn sift(
     entries: &[PreparedWriter],
     attempts: &[Attempt],
-    index: &[KeyWriter],
+    index: &[KeyAttempt],
     keys: &[Key],
     read: SnapshotRead,
     blocking: &mut Vec<Holder>,
@@ -147,16 +123,16 @@ pub fn sift(
 )
     requires attempts { attempts.now ≡ prepared_attempts entries.now }
     requires ascending { ascends attempt_lt attempts.now ≡ true }
-    requires index_ascends { ascends writer_lt index.now ≡ true }
+    requires index_ascends { ascends key_attempt_lt index.now ≡ true }
     requires no_blocking { blocking.old.items ≡ [] }
     requires no_skipped { skipped.old.items ≡ [] }
-    requires blocking_room { length (with_keys holder_lt holder_of (blocks read) entries.now index.now keys.now []) ≤ vec_capacity blocking.old }
-    requires skipped_room { length (with_keys skipped_lt skipped_of (is_passed read) entries.now index.now keys.now []) ≤ vec_capacity skipped.old }
-    ensures blocking { blocking.new.items ≡ with_keys holder_lt holder_of (blocks read) entries.now index.now keys.now [] }
-    ensures skipped { skipped.new.items ≡ with_keys skipped_lt skipped_of (is_passed read) entries.now index.now keys.now [] }
+    requires blocking_room { length (listed_keys attempt_of holder_lt holder_of (blocks read) entries.now index.now keys.now []) ≤ vec_capacity blocking.old }
+    requires skipped_room { length (listed_keys attempt_of skipped_lt skipped_of (is_passed read) entries.now index.now keys.now []) ≤ vec_capacity skipped.old }
+    ensures blocking { blocking.new.items ≡ listed_keys attempt_of holder_lt holder_of (blocks read) entries.now index.now keys.now [] }
+    ensures skipped { skipped.new.items ≡ listed_keys attempt_of skipped_lt skipped_of (is_passed read) entries.now index.now keys.now [] }
 {
     for key in keys {
-        let writers = find_writers(index, *key);
+        let writers = find_pairs(index, *key);
         list_writers(entries, attempts, writers, read, blocking, skipped);
     }
 }

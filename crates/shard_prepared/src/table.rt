@@ -5,10 +5,10 @@ ghost use Rattle.std.specs.Option.{option_copied};
 ghost use Rattle.rss_tables.specs.Prepared.{prepared_of, prepared_attempts, with_prepared, without_prepared, blocking as ones_blocking, passed_by as ones_passed, named_blocking, named_skipped};
 ghost use Rattle.shard_prepared.specs.PreparedView.{has_room};
 
-use crate::index::{KeyWriter, drop_writes, put_writes};
-use crate::search::{place_of, search};
+use crate::index::{drop_writes, put_writes};
 use crate::sifting::{self, SnapshotRead};
 use crate::writer::{PreparedWriter, find_entry};
+use attempt_index::{KeyAttempt, place_of, search};
 use rss_names::{Attempt, Key};
 use rss_wire::{Holder, Skipped};
 use std::alloc::{AllocError, Global};
@@ -19,7 +19,7 @@ use std::marker::Model;
 pub struct PreparedTable {
     entries: Vec<PreparedWriter>,
     attempts: Vec<Attempt>,
-    index: Vec<KeyWriter>,
+    index: Vec<KeyAttempt>,
     room: Option<usize>,
 }
 

@@ -3,10 +3,12 @@
 ghost use Rattle.std.specs.Prelude.{◌≡◌, true};
 ghost use Rattle.std.specs.Option.{option_copied};
 ghost use Rattle.rss_tables.specs.Attempts.{attempt_lt};
-ghost use Rattle.rss_tables.specs.Prepared.{prepared_of, prepared_attempts};
-ghost use Rattle.shard_prepared.specs.Ascending.{ascends};
+ghost use Rattle.rss_tables.specs.Prepared.{prepared_attempts};
+ghost use Rattle.attempt_index.specs.Entries.{entry_of};
+ghost use Rattle.shard_prepared.specs.Written.{attempt_of};
+ghost use Rattle.attempt_index.specs.Ascending.{ascends};
 
-use crate::search::search;
+use attempt_index::search;
 use rss_names::{Attempt, Key, Seq, ShardId};
 use std::marker::Model;
 
@@ -94,7 +96,7 @@ pub fn find_entry<'a>(
 ) -> Option<&'a PreparedWriter>
     requires attempts { attempts.now ≡ prepared_attempts entries.now }
     requires ascending { ascends attempt_lt attempts.now ≡ true }
-    ensures { option_copied result ≡ prepared_of entries.now attempt }
+    ensures { option_copied result ≡ entry_of attempt_of entries.now attempt }
 {
     match search(attempts, &attempt) {
         Ok(place) => Some(&entries[place]),

@@ -1,0 +1,5 @@
+pub mod Ascending
+pub mod KeyIndex
+pub mod Orders
+pub mod Entries
+pub mod Listing
