@@ -3,9 +3,11 @@ use Rattle.std.proofs.Common.{◌≡◌, ℕ, suc, zero, ◌<◌, ◌≤◌, Boo
 use Rattle.rss_names.specs.declared.attempt.Attempt.{Attempt}
 use Rattle.rss_names.specs.declared.service.Key.{Key}
 use Rattle.attempt_index.specs.declared.index.KeyAttempt.{KeyAttempt}
+use Rattle.rss_tables.specs.Attempts.{attempt_lt}
+use Rattle.attempt_index.specs.Ascending.{put_in}
 use Rattle.attempt_index.specs.Entries.{entry_of}
 use Rattle.attempt_index.specs.KeyIndex.{pairs_of}
-use Rattle.attempt_index.specs.Listing.{listed_one, listed_pairs, listed_keys}
+use Rattle.attempt_index.specs.Listing.{listed_one, listed_pairs, listed_keys, with_attempts, with_beside}
 use Rattle.attempt_index.proofs.Searching.{length-put}
 
 pub drop-next : {X : Type 0} (xs : List X) (i : ℕ) (d : X) → i < length xs → drop i xs ≡ get_or xs i d ∷ drop (suc i) xs
@@ -47,3 +49,23 @@ module _ {E : Type 0} (at : E → Attempt) where
       let all : length (listed_keys at before name test ps index (drop (suc i) ks) (listed_pairs at before name test ps (pairs_of index k) xs)) ≤ room = rw (drop-next ks i d l) at fits in
       let one : length (listed_pairs at before name test ps ws xs) ≡ length (listed_pairs at before name test ps (pairs_of index k) xs) = ap (λ (v : List KeyAttempt). length (listed_pairs at before name test ps v xs)) h in
       omega (arith, one, all, keys-grow before name test ps index (drop (suc i) ks) (listed_pairs at before name test ps (pairs_of index k) xs))
+
+pub attempts-grow : (ps : List KeyAttempt) (xs : List Attempt) → length xs ≤ length (with_attempts xs ps)
+attempts-grow [] xs = omega arith
+attempts-grow (p ∷ ps) xs = omega (arith, (length-put attempt_lt xs p.attempt).0, attempts-grow ps (put_in attempt_lt xs p.attempt))
+
+pub beside-grows : (index : List KeyAttempt) (ks : List Key) (xs : List Attempt) → length xs ≤ length (with_beside index ks xs)
+beside-grows index [] xs = omega arith
+beside-grows index (k ∷ ks) xs = omega (arith, attempts-grow (pairs_of index k) xs, beside-grows index ks (with_attempts xs (pairs_of index k)))
+
+-- where there is room for all that join, there is room for the next one
+pub attempt-fits : (ps : List KeyAttempt) (xs : List Attempt) (i : ℕ) (d : KeyAttempt) (room : ℕ) → i < length ps → length (with_attempts xs (drop i ps)) ≤ room → length (put_in attempt_lt xs (get_or ps i d).attempt) ≤ room
+attempt-fits ps xs i d room l fits =
+    let all : length (with_attempts (put_in attempt_lt xs (get_or ps i d).attempt) (drop (suc i) ps)) ≤ room = rw (drop-next ps i d l) at fits in
+    omega (arith, all, attempts-grow (drop (suc i) ps) (put_in attempt_lt xs (get_or ps i d).attempt))
+
+pub beside-fits : (index : List KeyAttempt) (ks : List Key) (xs : List Attempt) (i : ℕ) (d : Key) (ps : List KeyAttempt) (room : ℕ) → i < length ks → ps ≡ pairs_of index (get_or ks i d) → length (with_beside index (drop i ks) xs) ≤ room → length (with_attempts xs ps) ≤ room
+beside-fits index ks xs i d ps room l h fits =
+    let all : length (with_beside index (drop (suc i) ks) (with_attempts xs (pairs_of index (get_or ks i d)))) ≤ room = rw (drop-next ks i d l) at fits in
+    let one : length (with_attempts xs ps) ≡ length (with_attempts xs (pairs_of index (get_or ks i d))) = ap (λ (v : List KeyAttempt). length (with_attempts xs v)) h in
+    omega (arith, one, all, beside-grows index (drop (suc i) ks) (with_attempts xs (pairs_of index (get_or ks i d))))

@@ -1,20 +1,23 @@
 -- Those listed key by key are those that a filter of all the entries leaves.
-use Rattle.std.proofs.Common.{◌≡◌, ℕ, suc, zero, ◌<◌, ◌≤◌, Bool, true, false, ◌&&◌, ◌||◌, List, [], ◌∷◌, length, map, filter, get_or, Option, Some, None, arith, refl, sym, ap, ◌∙◌}
+use Rattle.std.proofs.Common.{◌≡◌, ℕ, suc, zero, ◌<◌, ◌≤◌, Bool, true, false, ◌&&◌, ◌||◌, List, [], ◌∷◌, length, map, filter, get_or, Option, Some, None, is_some, arith, refl, sym, ap, ◌∙◌}
 use Rattle.std.specs.List.{list_all, list_any}
+use Rattle.std.proofs.lemmas.Bool.{false≢true}
 use Rattle.std.proofs.lemmas.Grind.{common_steps}
+use Rattle.std.proofs.lemmas.List.Folds.{list_any_at}
 use Rattle.rss_names.specs.declared.attempt.Attempt.{Attempt}
 use Rattle.rss_names.specs.declared.service.Key.{Key}
 use Rattle.rss_names.specs.Services.{same_key}
+use Rattle.rss_names.proofs.Services.{same_key-Decides}
 use Rattle.rss_tables.specs.Attempts.{same_attempt, attempt_lt}
 use Rattle.rss_tables.specs.Locks.{has_key}
 use Rattle.attempt_index.specs.declared.index.KeyAttempt.{KeyAttempt}
 use Rattle.attempt_index.specs.Ascending.{ascends, put_in}
 use Rattle.attempt_index.specs.Entries.{entry_of, entry_has, IsIndexOf}
 use Rattle.attempt_index.specs.KeyIndex.{is_beside, pairs_of}
-use Rattle.attempt_index.specs.Listing.{listed_one, listed_pairs, listed_keys}
+use Rattle.attempt_index.specs.Listing.{listed_one, listed_pairs, listed_keys, with_attempts, with_beside}
 use Rattle.attempt_index.proofs.Searching.{both}
 use Rattle.attempt_index.proofs.Indexed.{attempts-apart, same_attempt-Decides}
-use Rattle.attempt_index.proofs.Entries.{later-there, entry-itself}
+use Rattle.attempt_index.proofs.Entries.{own-entry, later-there, entry-itself}
 
 -- filters by tests that agree on each item leave the same
 pub filters-agree : {E : Type 0} (t u : E → Bool) (ps : List E) → ((i : ℕ) (d : E) → i < length ps → t (get_or ps i d) ≡ u (get_or ps i d)) → filter t ps ≡ filter u ps
@@ -161,3 +164,68 @@ module _ {E : Type 0} (at : E → Attempt) where
       go : (b : Bool) → test p ≡ b → length (map name (filter test ps)) ≤ length ps → length (map name (filter test (p ∷ ps))) ≤ length (p ∷ ps)
       go true e ih = rw e (omega (arith, ih))
       go false e ih = rw e (omega (arith, ih))
+
+  -- whether each pair is that of an entry
+  abbrev all_there : List E → List KeyAttempt → Bool
+  all_there es ps = list_all (λ (p : KeyAttempt). is_some (entry_of at es p.attempt)) ps
+
+  -- the attempts of pairs join as the entries of the pairs do
+  joins-alike : (es : List E) (ps : List KeyAttempt) (xs : List Attempt) → all_there es ps ≡ true → with_attempts xs ps ≡ listed_pairs at attempt_lt at (λ (e : E). true) es ps xs
+  joins-alike es [] xs h = refl
+  joins-alike es (p ∷ ps) xs h =
+      let q = both (is_some (entry_of at es p.attempt)) (all_there es ps) h in
+      go (entry_of at es p.attempt) refl q.0 ∙ joins-alike es ps (listed_one attempt_lt at (λ (e : E). true) (entry_of at es p.attempt) xs) q.1
+    where
+      go : (o : Option E) → entry_of at es p.attempt ≡ o → is_some (entry_of at es p.attempt) ≡ true → with_attempts (put_in attempt_lt xs p.attempt) ps ≡ with_attempts (listed_one attempt_lt at (λ (e : E). true) (entry_of at es p.attempt) xs) ps
+      go None e s = absurd (false≢true (rw e at s))
+      go (Some x) e s = rw e (ap (λ (a : Attempt). with_attempts (put_in attempt_lt xs a) ps) (own-entry at es p.attempt x e))
+
+  kept-there : (es : List E) (test : KeyAttempt → Bool) (ps : List KeyAttempt) → all_there es ps ≡ true → all_there es (filter test ps) ≡ true
+  kept-there es test [] h = refl
+  kept-there es test (p ∷ ps) h =
+      let q = both (is_some (entry_of at es p.attempt)) (all_there es ps) h in
+      go (test p) refl q.0 (kept-there es test ps q.1)
+    where
+      go : (b : Bool) → test p ≡ b → is_some (entry_of at es p.attempt) ≡ true → all_there es (filter test ps) ≡ true → all_there es (filter test (p ∷ ps)) ≡ true
+      go true e s ih = rw (e, s) ih
+      go false e s ih = rw e ih
+
+  each-there : (es : List E) (ps : List KeyAttempt) → ((i : ℕ) (d : KeyAttempt) → i < length ps → is_some (entry_of at es (get_or ps i d).attempt) ≡ true) → all_there es ps ≡ true
+  each-there es [] h = refl
+  each-there es (p ∷ ps) h = rw (h zero p (omega arith)) (each-there es ps (λ i d l. h (suc i) d (omega (arith, l))))
+
+  some-has : (keys : E → List Key) (o : Option E) (k : Key) → entry_has keys o k ≡ true → is_some o ≡ true
+  some-has keys None k h = absurd (false≢true h)
+  some-has keys (Some e) k h = refl
+
+  -- each pair of an index is that of an entry
+  index-there : (keys : E → List Key) (index : List KeyAttempt) (es : List E) → IsIndexOf at keys index es → all_there es index ≡ true
+  index-there keys index es h = each-there es index (λ i d l. go (get_or index i d) (list_any_at (λ (w : KeyAttempt). same_key (get_or index i d).key w.key && same_attempt (get_or index i d).attempt w.attempt) index i d l (itself (get_or index i d))))
+    where
+      itself : (w : KeyAttempt) → (same_key w.key w.key && same_attempt w.attempt w.attempt) ≡ true
+      itself w =
+          let k : same_key w.key w.key ≡ true = (same_key-Decides w.key w.key).1 refl in
+          let a : same_attempt w.attempt w.attempt ≡ true = (same_attempt-Decides w.attempt w.attempt).1 refl in
+          rw (k, a) refl
+
+      go : (w : KeyAttempt) → is_beside index w.key w.attempt ≡ true → is_some (entry_of at es w.attempt) ≡ true
+      go w e = some-has keys (entry_of at es w.attempt) w.key (sym (h.pairs w.key w.attempt) ∙ e)
+
+  joins-keys-alike : (es : List E) (index : List KeyAttempt) (ks : List Key) (xs : List Attempt) → all_there es index ≡ true → with_beside index ks xs ≡ listed_keys at attempt_lt at (λ (e : E). true) es index ks xs
+  joins-keys-alike es index [] xs h = refl
+  joins-keys-alike es index (k ∷ ks) xs h =
+      ap (with_beside index ks) (joins-alike es (pairs_of index k) xs (kept-there es (λ (w : KeyAttempt). same_key k w.key) index h))
+      ∙ joins-keys-alike es index ks (listed_pairs at attempt_lt at (λ (e : E). true) es (pairs_of index k) xs) h
+
+  and-true : (b : Bool) → (b && true) ≡ b
+  and-true true = refl
+  and-true false = refl
+
+  -- when the attempts beside keys join those of the entries that pass a test, the list is that of the entries that pass it or have one of the keys
+  pub beside-keys : (f : E → Bool) (keys : E → List Key) (index : List KeyAttempt) (ks : List Key) (es : List E) → ascends attempt_lt (map at es) ≡ true → IsIndexOf at keys index es
+      → with_beside index ks (map at (filter f es)) ≡ map at (filter (λ (e : E). f e || list_any (λ (k : Key). has_key (keys e) k) ks) es)
+  beside-keys f keys index ks es up h =
+      ap (λ (l : List E). with_beside index ks (map at l)) (filters-agree f (λ (e : E). f e && true) es (λ i d l. sym (and-true (f (get_or es i d)))))
+      ∙ joins-keys-alike es index ks (map at (filter (λ (e : E). f e && true) es)) (index-there keys index es h)
+      ∙ sieved attempt_lt at (λ p q. refl) (λ (e : E). true) f keys index ks es up h
+      ∙ ap (λ (l : List E). map at l) (filters-agree (λ (e : E). (f e || list_any (λ (k : Key). has_key (keys e) k) ks) && true) (λ (e : E). f e || list_any (λ (k : Key). has_key (keys e) k) ks) es (λ i d l. and-true (f (get_or es i d) || list_any (λ (k : Key). has_key (keys (get_or es i d)) k) ks)))

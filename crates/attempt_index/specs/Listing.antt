@@ -2,6 +2,7 @@
 use Rattle.std.specs.Prelude.{Bool, List, [], ◌∷◌, Option, Some, None, if◌then◌else◌}
 use Rattle.rss_names.specs.declared.attempt.Attempt.{Attempt}
 use Rattle.rss_names.specs.declared.service.Key.{Key}
+use Rattle.rss_tables.specs.Attempts.{attempt_lt}
 use Rattle.attempt_index.specs.declared.index.KeyAttempt.{KeyAttempt}
 use Rattle.attempt_index.specs.Ascending.{put_in}
 use Rattle.attempt_index.specs.Entries.{entry_of}
@@ -23,3 +24,13 @@ abbrev pub listed_keys : {E X : Type 0} → (E → Attempt) → (X → X → Boo
 listed_keys at before name test entries index [] list = list
 listed_keys at before name test entries index (k ∷ keys) list =
     listed_keys at before name test entries index keys (listed_pairs at before name test entries (pairs_of index k) list)
+
+-- the attempts of pairs join a list of attempts, each once
+abbrev pub with_attempts : List Attempt → List KeyAttempt → List Attempt
+with_attempts list [] = list
+with_attempts list (p ∷ pairs) = with_attempts (put_in attempt_lt list p.attempt) pairs
+
+-- the attempts beside one of these keys join
+abbrev pub with_beside : List KeyAttempt → List Key → List Attempt → List Attempt
+with_beside index [] list = list
+with_beside index (k ∷ keys) list = with_beside index keys (with_attempts list (pairs_of index k))

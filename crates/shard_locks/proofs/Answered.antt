@@ -8,7 +8,7 @@ use Rattle.rss_names.specs.declared.service.Key.{Key}
 use Rattle.rss_tables.specs.Attempts.{same_attempt, has_attempt, attempt_lt, with_attempt}
 use Rattle.rss_tables.specs.Locks.{LockHolder, Locks, holds, is_tombstoned, is_wounded_by, wounded_by, attempts_of, with_tombs, with_holder, after_wounds, taken, after_lock}
 use Rattle.shard_locks.specs.declared.answer.LockAnswer.{LockAnswer}
-use Rattle.shard_locks.specs.LockView.{answer_by}
+use Rattle.shard_locks.specs.LockView.{answer_by, wounded_at}
 use Rattle.shard_locks.specs.Settled.{ones_in_way, settled, settled_answer}
 
 -- whether an attempt is among holders
@@ -114,3 +114,7 @@ asked locks prepared new wounded left tombs holders answer e d w l t h a =
     let a' = rw l at a in
     let now : ◌≡◌ {A = Locks} record { holders = holders; tombs = tombs } (after_lock locks prepared new) = rw (t', h') (asked_locks locks prepared new e d) in
     (now, a' ∙ asked_answer locks prepared new e d ∙ ap (λ (ls : Locks). answer_by ls new.attempt new.reads new.writes) (sym (asked_taken locks prepared new e d) ∙ sym now))
+
+-- whom one wounds that is neither tombstoned nor holding
+pub wounds-those : (locks : Locks) (prepared : List Attempt) (new : LockHolder) → is_tombstoned locks new.attempt ≡ false → holds locks new.attempt ≡ false → wounded_at locks prepared new ≡ attempts_of (wounded_by locks prepared new.attempt new.reads new.writes)
+wounds-those locks prepared new e d = rw (e, d) refl

@@ -1,3 +1,4 @@
 pub mod LockView
 pub mod Kept
 pub mod Settled
+pub mod Holders

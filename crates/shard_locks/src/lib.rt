@@ -4,6 +4,7 @@
 mod answer;
 mod buried;
 mod conflict;
+mod holders;
 mod holding;
 mod table;
 mod wounding;

@@ -1,17 +1,16 @@
 //! The lock table.
 
 ghost use Rattle.std.specs.Prelude.{◌≡◌, ◌+◌, ◌<◌, ◌≤◌, length, is_some, true, None, Some, OnOk, OnErr, vec_len, vec_capacity};
-ghost use Rattle.rss_tables.specs.Locks.{no_locks, after_lock, holds, is_tombstoned, coordinator_in, without_holder, with_tomb};
+ghost use Rattle.rss_tables.specs.Locks.{no_locks, after_lock, holds, is_tombstoned, coordinator_in, without_holder, with_tomb, named_holders};
 ghost use Rattle.shard_locks.specs.LockView.{has_room, answer_by, wounded_at};
-ghost use Rattle.shard_locks.specs.Settled.{settled, settled_answer};
+ghost use Rattle.shard_locks.specs.Holders.{holder_of, named_of, has_holder_room};
+ghost use Rattle.shard_locks.specs.Settled.{ones_in_way, settled, settled_answer};
 
 use crate::answer::LockAnswer;
 use crate::buried::{bury, bury_all, is_buried};
+use crate::holders::HolderTable;
 use crate::holding::Holding;
-use crate::wounding::{
-    coordinator_of, drop_holder, drop_wounded, filled, is_holding, list_in_way, list_wounded,
-    put_holder,
-};
+use crate::wounding::{filled, list_waiting, list_wounded, remove_all};
 use indexmap::IndexSet;
 use rss_names::{Attempt, Key, Seq, ShardId};
 use rss_wire::Holder;
@@ -22,10 +21,11 @@ use std::mem;
 /// The locks of a shard: who holds which keys, and the attempts that can hold none any more.
 pub struct LockTable {
     alloc: Global,
-    holders: Vec<Holding>,
+    holders: HolderTable,
     tombs: IndexSet<Attempt>,
     reads: Vec<Key>,
     writes: Vec<Key>,
+    found: Vec<Attempt>,
     waiting: Vec<Holder>,
     room: Option<usize>,
 }
@@ -38,6 +38,7 @@ impl Drop for LockTable {
             tombs: _tombs,
             reads: _reads,
             writes: _writes,
+            found: _found,
             waiting: _waiting,
             room: _room,
         } = self;
@@ -50,7 +51,7 @@ impl Model for LockTable {
 
     ghost Value = { LockView };
 
-    ghost view = { λ t. record { locks = record { holders = t.holders.items; tombs = t.tombs.keys }; room = t.room } };
+    ghost view = { λ t. record { locks = record { holders = t.holders.holders; tombs = t.tombs.keys }; room = t.room } };
 
     ghost invariant = { IsKept };
 }
@@ -63,10 +64,11 @@ impl LockTable {
     {
         LockTable {
             alloc,
-            holders: Vec::new(alloc),
+            holders: HolderTable::new(alloc),
             tombs: IndexSet::new(alloc),
             reads: Vec::new(alloc),
             writes: Vec::new(alloc),
+            found: Vec::new(alloc),
             waiting: Vec::new(alloc),
             room: None,
         }
@@ -79,11 +81,13 @@ impl LockTable {
         ensures room { OnOk result (self.new.room ≡ Some keys) }
         ensures unchanged { OnErr result (self.new.room ≡ self.old.room) }
     {
-        self.holders.reserve(1)?;
         self.tombs.reserve(self.holders.len().max(1))?;
         self.reads.reserve(keys)?;
         self.writes.reserve(keys)?;
+        self.found.clear();
+        self.found.reserve(self.holders.len())?;
         self.waiting.reserve(self.holders.len())?;
+        self.holders.make_room(keys)?;
         self.room = Some(keys);
         Ok(())
     }
@@ -120,18 +124,27 @@ impl LockTable {
         let reads = filled(mem::replace(&mut self.reads, Vec::new(self.alloc)), reads);
         let writes = filled(mem::replace(&mut self.writes, Vec::new(self.alloc)), writes);
         let new = Holding::new(attempt, coordinator, reads, writes);
-        list_wounded(self.holders.as_slice(), &new, prepared, wounded);
-        drop_wounded(&mut self.holders, &new, prepared);
+        self.found.clear();
+        self.holders.list_in_way(&new, &mut self.found);
+        list_wounded(self.found.as_slice(), attempt, prepared, wounded);
+        remove_all(&mut self.holders, wounded.as_slice());
         bury_all(&mut self.tombs, wounded.as_slice());
         self.room = None;
-        settle(self.alloc, &mut self.holders, &mut self.waiting, new)
+        let in_way = self.found.as_slice();
+        settle(
+            self.alloc,
+            &mut self.holders,
+            in_way,
+            &mut self.waiting,
+            new,
+        )
     }
 
     /// Whether an attempt holds locks.
     pub fn holds(&self, attempt: Attempt) -> bool
         ensures { result ≡ holds self.now.locks attempt }
     {
-        is_holding(self.holders.as_slice(), attempt)
+        self.holders.find(attempt).is_some()
     }
 
     /// Whether an attempt can hold no locks any more.
@@ -152,7 +165,10 @@ impl LockTable {
     pub fn coordinator(&self, attempt: Attempt) -> Option<ShardId>
         ensures { result ≡ coordinator_in self.now.locks.holders attempt }
     {
-        coordinator_of(self.holders.as_slice(), attempt)
+        match self.holders.find(attempt) {
+            Some(holder) => Some(holder.coordinator()),
+            None => None,
+        }
     }
 
     /// An attempt gives its locks back. The room stays.
@@ -160,7 +176,7 @@ impl LockTable {
         ensures released { self.new.locks ≡ without_holder self.old.locks attempt }
         ensures room { self.new.room ≡ self.old.room }
     {
-        drop_holder(&mut self.holders, attempt);
+        self.holders.remove(attempt);
     }
 
     /// An attempt can hold no locks from now on; those that it holds stay. Uses up the room, and takes
@@ -185,23 +201,27 @@ impl LockTable {
     }
 }
 
-// The one that asks takes its locks where nobody is in its way, else learns who is.
+// The one that asks takes its locks where nobody is in its way, else learns who is. Those that were in
+// its way are given.
 fn settle(
     alloc: Global,
-    holders: &mut Vec<Holding>,
+    holders: &mut HolderTable,
+    in_way: &[Attempt],
     waiting: &mut Vec<Holder>,
     new: Holding,
 ) -> LockAnswer
+    requires new { holder_of holders.old.holders new.attempt ≡ None }
+    requires in_way { named_of holders.old.holders in_way.now ≡ named_holders (ones_in_way holders.old.holders new) }
     requires empty { vec_len waiting.old ≡ 0 }
-    requires room { vec_len holders.old < vec_capacity holders.old }
-    requires list { vec_len holders.old ≤ vec_capacity waiting.old }
-    ensures taken { holders.new.items ≡ settled holders.old.items new }
-    ensures answers { result ≡ settled_answer holders.old.items new }
+    requires room { has_holder_room holders.old.room (length new.reads + length new.writes) ≡ true }
+    requires list { length in_way.now ≤ vec_capacity waiting.old }
+    ensures taken { holders.new.holders ≡ settled holders.old.holders new }
+    ensures answers { result ≡ settled_answer holders.old.holders new }
     ensures empty { vec_len waiting.new ≡ 0 }
 {
-    list_in_way(holders.as_slice(), &new, waiting);
+    list_waiting(holders, in_way, waiting);
     if waiting.is_empty() {
-        put_holder(holders, new);
+        holders.add(new);
         return LockAnswer::Granted;
     }
     let others = mem::replace(waiting, Vec::new(alloc));
@@ -218,6 +238,14 @@ mod tests {
         service: ServiceId::Txn(1),
         index: 0,
     };
+
+    // A key of the same service.
+    fn key(index: u16) -> Key {
+        Key {
+            service: ServiceId::Txn(1),
+            index,
+        }
+    }
 
     // An attempt asks a table whose coordinator it names, with room for that.
     fn asked(
@@ -254,6 +282,25 @@ mod tests {
         assert_eq!(rt; waits, LockAnswer::Wait(others));
         let again = asked(&mut table, &mut wounded, 2, &[], &[X])?;
         assert_eq!(rt; again, LockAnswer::WoundedSelf);
+        Ok(())
+    }
+
+    #[test]
+    fn finds_one_of_many_often(rt: HostRuntime) -> Result<(), Fail> {
+        let alloc = rt.alloc();
+        let mut table = LockTable::new(alloc);
+        let mut wounded = Vec::new(alloc);
+        for call in 1..20001u32 {
+            let _taken = asked(&mut table, &mut wounded, call, &[], &[key(call as u16)])?;
+        }
+        let mut waits = 0u32;
+        for _ask in 0..3_000_000u32 {
+            let answer = asked(&mut table, &mut wounded, 30000, &[key(10000)], &[])?;
+            if matches!(answer, LockAnswer::Wait(_)) {
+                waits = waits.wrapping_add(1);
+            }
+        }
+        assert_eq!(rt; waits, 3_000_000);
         Ok(())
     }
 }

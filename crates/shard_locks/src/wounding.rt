@@ -1,81 +1,51 @@
-//! What a request for locks does with the holders.
+//! What a request for locks does with the holders in its way.
 
-ghost use Rattle.std.specs.Prelude.{◌≡◌, ◌+◌, ◌<◌, ◌≤◌, [], length, map, not, vec_len, vec_capacity, true};
-ghost use Rattle.std.specs.List.{filter, insert, list_any};
-ghost use Rattle.rss_tables.specs.Attempts.{same_attempt};
-ghost use Rattle.rss_tables.specs.Locks.{LockHolder, conflicts as is_in_way, is_wounded_by, attempts_of, named_holders, with_holder, coordinator_in};
+ghost use Rattle.std.specs.Prelude.{◌≡◌, ◌<◌, ◌≤◌, [], length, vec_len, vec_capacity};
+ghost use Rattle.std.specs.List.{filter};
+ghost use Rattle.shard_locks.specs.Holders.{without_holders, named_of, is_open};
 
-use crate::conflict::{conflicts, wounds};
-use crate::holding::Holding;
-use rss_names::{Attempt, Key, ShardId, is_attempt_before, is_same_attempt};
+use crate::conflict::is_wounded;
+use crate::holders::HolderTable;
+use rss_names::{Attempt, Key};
 use rss_wire::Holder;
 
-/// Whether an attempt is among the holders.
-pub fn is_holding(holders: &[Holding], attempt: Attempt) -> bool
-    ensures { result ≡ list_any (λ (h : LockHolder). same_attempt attempt h.attempt) holders.now }
-{
-    holders
-        .iter()
-        .any(|holder| is_same_attempt(attempt, holder.attempt()))
-}
-
-/// The coordinator that the attempt's holder named, if the attempt is among the holders.
-pub fn coordinator_of(holders: &[Holding], attempt: Attempt) -> Option<ShardId>
-    ensures { result ≡ coordinator_in holders.now attempt }
-{
-    for holder in holders {
-        if is_same_attempt(attempt, holder.attempt()) {
-            return Some(holder.coordinator());
-        }
-    }
-    None
-}
-
-/// Lists the attempts that the one that asks wounds. There is room for all holders.
+/// Lists those of the attempts in the way that the one that asks wounds. There is room for all.
 pub fn list_wounded(
-    holders: &[Holding],
-    asking: &Holding,
+    in_way: &[Attempt],
+    asking: Attempt,
     prepared: &[Attempt],
     wounded: &mut Vec<Attempt>,
 )
     requires empty { vec_len wounded.old ≡ 0 }
-    requires room { length holders.now ≤ vec_capacity wounded.old }
-    ensures listed { wounded.new.items ≡ attempts_of (filter (is_wounded_by prepared.now asking.now.attempt asking.now.reads asking.now.writes) holders.now) }
-    ensures few { vec_len wounded.new ≤ length holders.now }
+    requires room { length in_way.now ≤ vec_capacity wounded.old }
+    ensures listed { wounded.new.items ≡ filter (is_open prepared.now asking) in_way.now }
+    ensures few { vec_len wounded.new ≤ length in_way.now }
 {
-    for holder in holders {
-        if wounds(asking, prepared, holder) {
-            wounded.push(holder.attempt()).unwrap();
+    for attempt in in_way {
+        if is_wounded(asking, prepared, *attempt) {
+            wounded.push(*attempt).unwrap();
         }
     }
 }
 
-/// Takes the holders away that the attempt that asks wounds.
-pub fn drop_wounded(holders: &mut Vec<Holding>, asking: &Holding, prepared: &[Attempt])
-    ensures left { holders.new.items ≡ filter (λ (h : LockHolder). not (is_wounded_by prepared.now asking.now.attempt asking.now.reads asking.now.writes h)) holders.old.items }
-    ensures fewer { vec_len holders.new ≤ vec_len holders.old }
-    ensures capacity { vec_capacity holders.new ≡ vec_capacity holders.old }
+/// Takes the holders of attempts away.
+pub fn remove_all(holders: &mut HolderTable, attempts: &[Attempt])
+    ensures left { holders.new.holders ≡ without_holders holders.old.holders attempts.now }
+    ensures room { holders.new.room ≡ holders.old.room }
 {
-    holders.retain(|holder| !wounds(asking, prepared, holder));
+    for attempt in attempts {
+        holders.remove(*attempt);
+    }
 }
 
-/// Takes the holder of an attempt away.
-pub fn drop_holder(holders: &mut Vec<Holding>, attempt: Attempt)
-    ensures left { holders.new.items ≡ filter (λ (h : LockHolder). not (same_attempt attempt h.attempt)) holders.old.items }
-    ensures fewer { vec_len holders.new ≤ vec_len holders.old }
-    ensures capacity { vec_capacity holders.new ≡ vec_capacity holders.old }
-{
-    holders.retain(|holder| !is_same_attempt(attempt, holder.attempt()));
-}
-
-/// Lists those that are in the way of the attempt that asks. There is room for all holders.
-pub fn list_in_way(holders: &[Holding], asking: &Holding, waiting: &mut Vec<Holder>)
+/// Lists those of the attempts in the way that still hold locks. There is room for all.
+pub fn list_waiting(holders: &HolderTable, in_way: &[Attempt], waiting: &mut Vec<Holder>)
     requires empty { vec_len waiting.old ≡ 0 }
-    requires room { length holders.now ≤ vec_capacity waiting.old }
-    ensures listed { waiting.new.items ≡ named_holders (filter (is_in_way asking.now.attempt asking.now.reads asking.now.writes) holders.now) }
+    requires room { length in_way.now ≤ vec_capacity waiting.old }
+    ensures { waiting.new.items ≡ named_of holders.now.holders in_way.now }
 {
-    for holder in holders {
-        if conflicts(asking, holder) {
+    for attempt in in_way {
+        if let Some(holder) = holders.find(*attempt) {
             let named = Holder {
                 attempt: holder.attempt(),
                 coordinator: holder.coordinator(),
@@ -83,28 +53,6 @@ pub fn list_in_way(holders: &[Holding], asking: &Holding, waiting: &mut Vec<Hold
             waiting.push(named).unwrap();
         }
     }
-}
-
-/// The place of an attempt among holders by ascending attempt.
-fn place_for(holders: &[Holding], new: &Holding) -> usize
-    ensures within { result ≤ length holders.now }
-    ensures inserted { with_holder holders.now new.now ≡ insert holders.now result new.now }
-{
-    for place in 0..holders.len() {
-        if is_attempt_before(new.attempt(), holders[place].attempt()) {
-            return place;
-        }
-    }
-    holders.len()
-}
-
-/// Puts a holder among holders by ascending attempt. There is room for it.
-pub fn put_holder(holders: &mut Vec<Holding>, new: Holding)
-    requires room { vec_len holders.old < vec_capacity holders.old }
-    ensures { holders.new.items ≡ with_holder holders.old.items new }
-{
-    let place = place_for(holders, &new);
-    holders.insert(place, new).unwrap();
 }
 
 /// A list with keys in it. There is room for them.
