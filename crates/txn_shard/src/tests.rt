@@ -70,12 +70,12 @@ fn prepare(alloc: Global, attempt: Attempt, earliest_end: u64) -> Result<Request
     })
 }
 
-fn snapshot(alloc: Global, read_time: u64, least: u64) -> Result<Request, AllocError> {
+fn snapshot(alloc: Global, read_time: u64, least: u64, skip: bool) -> Result<Request, AllocError> {
     Ok(Request::Snapshot {
         read_time,
         least,
         keys: list_of(alloc, &[X])?,
-        skip: true,
+        skip,
     })
 }
 
@@ -112,7 +112,7 @@ fn a_snapshot_waits_for_a_completed_write(rt: HostRuntime) -> Result<(), Fail> {
     };
     assert_eq!(rt; serve(&mut shard, decide, 64)?, Reply::Decided { outcome });
     assert_eq!(rt;
-        serve(&mut shard, snapshot(alloc, 84, 0)?, 94)?,
+        serve(&mut shard, snapshot(alloc, 84, 0, true)?, 94)?,
         blocked(alloc)?
     );
     let inquire = Request::Inquire { attempt: FIRST };
@@ -130,7 +130,7 @@ fn a_snapshot_waits_for_a_completed_write(rt: HostRuntime) -> Result<(), Fail> {
         time: 64,
         writer: 1,
     };
-    let shown = serve(&mut shard, snapshot(alloc, 84, 0)?, 154)?;
+    let shown = serve(&mut shard, snapshot(alloc, 84, 0, true)?, 154)?;
     assert_eq!(rt; shown, values(alloc, version, &[])?);
     assert_eq!(rt; shard.floor(), 84);
     Ok(())
@@ -154,9 +154,9 @@ fn opening_past(alloc: Global, skipped: &[Skipped]) -> Result<Reply, AllocError>
     values(alloc, opening, skipped)
 }
 
-// The reply to a snapshot.
+// The reply to a snapshot that may pass writers by.
 fn read(alloc: Global, shard: &mut Shard, time: u64, least: u64) -> Result<Reply, AllocError> {
-    serve(shard, snapshot(alloc, time, least)?, 2000)
+    serve(shard, snapshot(alloc, time, least, true)?, 2000)
 }
 
 #[test]
@@ -175,6 +175,8 @@ fn a_snapshot_passes_a_writer_above_its_least_time(rt: HostRuntime) -> Result<()
     assert_eq!(rt; read(alloc, &mut shard, 194, 74)?, blocked(alloc)?);
     assert_eq!(rt; read(alloc, &mut shard, 1054, 0)?, blocked(alloc)?);
     assert_eq!(rt; read(alloc, &mut shard, 73, 0)?, opening_past(alloc, &[])?);
+    let waiting = snapshot(alloc, 194, 0, false)?;
+    assert_eq!(rt; serve(&mut shard, waiting, 2000)?, blocked(alloc)?);
     Ok(())
 }
 
