@@ -1,4 +1,4 @@
-use Rattle.std.proofs.Common.{◌≤◌, length, vec_capacity, ap, arith}
+use Rattle.std.proofs.Common.{length, vec_capacity, ap, arith}
 use Rattle.attempt_index.proofs.Listed.{attempt-fits}
 use Rattle.attempt_index.proofs.listing.put_attempts.Goals as goal
 
