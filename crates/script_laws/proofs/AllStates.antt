@@ -23,7 +23,7 @@ module _ (config : Config) (h : List Entry) (stage : ℕ) where
   path_on m v w (goes {m = n} s p) e = goes s (path_on m v n p e)
 
   -- along a path the walk stands at the same place of the history
-  path_walked : (n : ℕ) (v w : Walk) → Path config h stage v w → Walked config h stage n w →
+  pub path_walked : (n : ℕ) (v w : Walk) → Path config h stage v w → Walked config h stage n w →
       Walked config h stage n v
   path_walked n v w stays p = p
   path_walked n v w (goes {m = m} s q) p =

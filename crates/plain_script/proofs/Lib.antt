@@ -1,0 +1,12 @@
+pub mod Pairs
+pub mod Next
+pub mod Begun
+pub mod WayLemmas
+pub mod StandingLemmas
+pub mod Owing
+pub mod Members
+pub mod WayReaches
+pub mod Tellings
+pub mod LeadsRight
+pub mod ToldRight
+pub mod StandingRight

@@ -1,0 +1,4 @@
+pub mod Walks
+pub mod Found
+pub mod Operations
+pub mod Standing
