@@ -1,12 +1,8 @@
-pub mod Pairs
-pub mod Next
-pub mod Begun
-pub mod WayLemmas
-pub mod StandingLemmas
-pub mod Owing
 pub mod Members
+pub mod WayLemmas
 pub mod WayReaches
 pub mod Tellings
 pub mod LeadsRight
 pub mod ToldRight
+pub mod StandingLemmas
 pub mod StandingRight

@@ -1,4 +1,1 @@
-pub mod Walks
-pub mod Found
-pub mod Operations
 pub mod Standing

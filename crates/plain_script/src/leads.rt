@@ -4,13 +4,10 @@ ghost use Rattle.std.specs.Prelude.{◌≡◌, ◌++◌, ◌<◌, length, IfOk, 
 ghost use Rattle.std.specs.List.{flat_map};
 ghost use Rattle.plain_script.specs.Standing.{is_got as is_taken, taken_by, leads_of, passed_of, next_states as states_behind};
 
-use crate::entries::entry_step;
-use crate::history::{entry_stage, same_token};
-use crate::takes::take_step;
 use crate::told::Told;
-use crate::walk::StageWalk;
 use crate::ways::states_at;
 use pipeline_lang::Config;
+use plain_walk::{StageWalk, entry_stage, entry_step, same_token, take_step};
 use rss_model::{Entry, Token};
 use std::alloc::{AllocError, Global};
 

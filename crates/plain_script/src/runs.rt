@@ -1,37 +1,15 @@
 //! Whether a stage runs its script.
 
-ghost use Rattle.std.specs.Prelude.{◌≡◌, ◌↔◌, IsTrue, IfOk, Contains, List, map};
+ghost use Rattle.std.specs.Prelude.{◌↔◌, IsTrue, IfOk, Contains};
 ghost use Rattle.rss_model.specs.Walk.{Walk, last_gives};
-ghost use Rattle.rss_model.specs.ScriptRun.{NothingOrAll, IsWhole, ScriptRun};
-ghost use Rattle.plain_script.specs.Walks.{token_of};
+ghost use Rattle.rss_model.specs.ScriptRun.{IsWhole, ScriptRun};
 
 use crate::table::final_table;
-use crate::walk::{Mode, Owed, StageWalk};
 use pipeline_lang::Config;
-use rss_model::{Entry, History, How};
+use plain_walk::StageWalk;
+use rss_model::History;
 use rss_names::StageId;
 use std::alloc::{AllocError, Global};
-
-// Whether nothing is owed any more, or still all.
-fn is_nothing_or_all(owed: &[Owed], all: &[Owed]) -> bool
-    ensures { IsTrue result ↔ NothingOrAll (map token_of owed.now) (map token_of all.now) }
-{
-    owed.is_empty() || owed == all
-}
-
-// Whether a walk may end here.
-fn is_whole(alloc: Global, config: &Config, stage: u8, walk: &StageWalk) -> Result<bool, AllocError>
-    ensures { IfOk result (λ whole.
-        IsTrue whole ↔ IsWhole (last_gives config.now stage walk.now) walk.now.mode) }
-{
-    match &walk.mode {
-        Mode::Unborn | Mode::Ready | Mode::InCall(_) | Mode::Over(How::Exited, _) => Ok(true),
-        Mode::Over(How::Killed | How::Unavailable, owed) => {
-            let all = walk.last_gives(alloc, config, stage)?;
-            Ok(is_nothing_or_all(owed, &all))
-        }
-    }
-}
 
 // Whether one of these walks may end here.
 fn has_whole(
@@ -44,7 +22,7 @@ fn has_whole(
         IsWhole (last_gives config.now stage walk) walk.mode)) }
 {
     for walk in walks {
-        if is_whole(alloc, config, stage, walk)? {
+        if walk.is_whole(alloc, config, stage)? {
             return Ok(true);
         }
     }
@@ -52,7 +30,7 @@ fn has_whole(
 }
 
 /// Whether the entries of a stage in a history are a prefix of what its script gives, up to an early
-/// death.
+/// death, after which stands nothing, or all that an exit gives.
 pub fn script_run(
     alloc: Global,
     config: &Config,

@@ -1,88 +1,26 @@
 //! All walks at each place of a history, by stage.
 
-ghost use Rattle.std.specs.Prelude.{◌≡◌, ℕ, ◌<◌, length, replicate, IfOk};
-ghost use Rattle.rss_model.specs.Walk.{first_walk, all_zero, all_open};
+ghost use Rattle.std.specs.Prelude.{◌≡◌, ℕ, ◌<◌, length, IfOk};
 ghost use Rattle.rss_model.specs.History.{entry_at};
 ghost use Rattle.plain_script.specs.Standing.{first_states as states_first, first_table as table_first, next_table as table_behind, standing, GivesWithin};
 
 use crate::leads::next_states;
-use crate::script::is_spawned;
 use crate::told::{Told, add_told};
-use crate::walk::{Mode, StageWalk};
 use pipeline_lang::Config;
+use plain_walk::StageWalk;
 use rss_model::Entry;
 use rss_names::Seq;
 use std::alloc::{AllocError, Global};
 
-// How many numbers a variable or a pipe can have.
-const NUMBERS: usize = 256;
-
 // How many numbers a stage can have, with 0, which is none.
 const STAGES: u8 = 17;
-
-// This value for each number that a variable or a pipe can have.
-fn for_each_number<T: Copy>(alloc: Global, value: T) -> Result<Vec<T>, AllocError>
-    ensures { IfOk result (λ values. values.items ≡ replicate 256 value) }
-{
-    let mut values = Vec::new(alloc);
-    values.resize(NUMBERS, value)?;
-    Ok(values)
-}
-
-// A zero for each number that a variable can have.
-#[tactic(auto, unfolding(rss_model::specs::Walk::all_zero))]
-fn zero_values(alloc: Global) -> Result<Vec<u64>, AllocError>
-    ensures { IfOk result (λ values. values.items ≡ all_zero) }
-{
-    for_each_number(alloc, 0)
-}
-
-// A zero for each number that a pipe can have.
-#[tactic(auto, unfolding(rss_model::specs::Walk::all_zero))]
-fn zero_numbers(alloc: Global) -> Result<Vec<u32>, AllocError>
-    ensures { IfOk result (λ numbers. numbers.items ≡ all_zero) }
-{
-    for_each_number(alloc, 0)
-}
-
-// No end mark for any number that a pipe can have.
-#[tactic(auto, unfolding(rss_model::specs::Walk::all_open))]
-fn no_marks(alloc: Global) -> Result<Vec<bool>, AllocError>
-    ensures { IfOk result (λ marks. marks.items ≡ all_open) }
-{
-    for_each_number(alloc, false)
-}
-
-// The walk of a stage before the first entry.
-fn first(alloc: Global, config: &Config, stage: u8) -> Result<StageWalk, AllocError>
-    ensures { IfOk result (λ walk. walk ≡ first_walk config.now stage) }
-{
-    let variables = zero_values(alloc)?;
-    let given = zero_numbers(alloc)?;
-    let taken = zero_numbers(alloc)?;
-    let closed = no_marks(alloc)?;
-    let mode = if is_spawned(config, stage) {
-        Mode::Unborn
-    } else {
-        Mode::Ready
-    };
-    Ok(StageWalk {
-        position: 0,
-        blocks: Vec::new(alloc),
-        variables,
-        given,
-        taken,
-        closed,
-        mode,
-    })
-}
 
 // The walks of a stage before the first entry.
 fn first_states(alloc: Global, config: &Config, stage: u8) -> Result<Seq<StageWalk>, AllocError>
     ensures { IfOk result (λ walks. walks ≡ states_first config.now stage) }
 {
     let mut walks = Vec::new(alloc);
-    walks.push(first(alloc, config, stage)?)?;
+    walks.push(StageWalk::first(alloc, config, stage)?)?;
     Ok(Seq::from_vec(walks))
 }
 

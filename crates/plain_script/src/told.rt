@@ -1,13 +1,11 @@
 //! What was told of the pipes.
 
-ghost use Rattle.std.specs.Prelude.{◌≡◌, ◌<◌, length, IfOk, OnOk};
+ghost use Rattle.std.specs.Prelude.{◌≡◌, ◌<◌, length, OnOk};
 ghost use Rattle.plain_script.specs.Standing.{same_value as is_same_value, same_told as is_same_told, is_listed as is_in, with_one, with_telling, with_tellings, told_at, told_by, GivesWithin};
 
-use crate::script::giver_of;
-use crate::takes::tells;
-use crate::walk::StageWalk;
 use crate::ways::states_at;
 use pipeline_lang::Config;
+use plain_walk::{StageWalk, giver_of, tells};
 use rss_model::{Entry, Token};
 use rss_names::Seq;
 use std::alloc::{AllocError, Global};

@@ -4,9 +4,8 @@ ghost use Rattle.std.specs.Prelude.{◌≡◌, ◌++◌, IfOk, OnOk};
 ghost use Rattle.std.specs.List.{flat_map};
 ghost use Rattle.plain_script.specs.Standing.{way};
 
-use crate::silent::silent_step;
-use crate::walk::StageWalk;
 use pipeline_lang::Config;
+use plain_walk::{StageWalk, silent_step};
 use rss_model::Entry;
 use std::alloc::{AllocError, Global};
 

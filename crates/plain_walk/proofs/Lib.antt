@@ -1,0 +1,4 @@
+pub mod Pairs
+pub mod Next
+pub mod Begun
+pub mod Owing
