@@ -73,10 +73,11 @@ next_table config h n told stage [] = []
 next_table config h n told stage (bases ∷ rest) =
     next_states config h stage n told bases ∷ next_table config h n told (suc stage) rest
 
--- the walks before the first entry; stage 0 is none
+-- the walks of a stage before the first entry
 abbrev pub first_states : Config → ℕ → List Walk
 first_states config stage = first_walk config stage ∷ []
 
+-- those of all stages, by number; stage 0 is none
 unfoldable pub first_table : Config → List (List Walk)
 first_table config = map (first_states config) (range_with_len 0 17)
 
@@ -135,12 +136,14 @@ pub record Standing : Type 0 where
   pub table : List (List Walk)
   pub told : List Told
 
+-- those behind the entry at the place, and what was told down to it
 abbrev pub after_entry : Config → List Entry → ℕ → Standing → Standing
 after_entry config h n s = record {
   table = next_table config h n s.told 0 s.table;
   told = told_by config h s.table s.told (entry_at h n);
 }
 
+-- all walks at each place, and what was told above it
 unfoldable pub standing : Config → List Entry → ℕ → Standing
 standing config h zero = record { table = first_table config; told = [] }
 standing config h (suc n) = after_entry config h n (standing config h n)
