@@ -15,3 +15,6 @@ pub mod Holders
 pub mod Notes
 pub mod Marked
 pub mod Ascending
+pub mod Contexts
+pub mod Doings
+pub mod OwnerWalk
