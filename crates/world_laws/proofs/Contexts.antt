@@ -70,7 +70,7 @@ pub of_hold : (G : Dep → Type 0) (id : ServiceId) (deps : List Dep) → All G 
 of_hold G id deps a = All-filter (λ (d : Dep). same_service id d.key.service) G deps a
 
 -- what is true of each element is true at each place, where it is of the default
-at_place : {X : Type 0} (Q : X → Type 0) (xs : List X) (i : ℕ) (d : X) → Q d → All Q xs → Q (get_or xs i d)
+pub at_place : {X : Type 0} (Q : X → Type 0) (xs : List X) (i : ℕ) (d : X) → Q d → All Q xs → Q (get_or xs i d)
 at_place Q xs i d e a = by_place (get_or_past xs i d)
   where
     by_place : (i < length xs) ⊎ (get_or xs i d ≡ d) → Q (get_or xs i d)

@@ -18,3 +18,5 @@ pub mod Ascending
 pub mod Contexts
 pub mod Doings
 pub mod OwnerWalk
+pub mod Sent
+pub mod Named

@@ -4,4 +4,5 @@ pub mod Proper
 pub mod Own
 pub mod Alone
 pub mod Ascending
+pub mod Registers
 pub mod Laws
