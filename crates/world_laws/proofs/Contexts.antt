@@ -126,3 +126,7 @@ deps_start G c = record {
   pipes = All-replicate (PipeHolds G) (length c.pipe_ends) opening_pipe (record { chunks = All-nil (ChunkHolds G); mark = All-nil G });
   copies = All-cons (CopyHolds G) no_owner [] (All-nil G) (All-nil (CopyHolds G));
 }
+
+-- an owner in the place of what it was, with the copy that it had
+pub set_copies : (G : Dep → Type 0) (s : State) (o : ℕ) (w : Owner) → w.works.copy ≡ (owner_at s o).works.copy → AllDeps G s → All (CopyHolds G) (set s.owners o w)
+set_copies G s o w e h = All-set (CopyHolds G) s.owners o w (subst (λ (x : Seen). All G x.deps) (sym e) (copy_holds G s o h)) h.copies

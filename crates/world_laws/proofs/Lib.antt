@@ -12,6 +12,7 @@ pub mod RequestsProper
 pub mod StoresOwn
 pub mod StepsOfTimes
 pub mod Holders
+pub mod Alone
 pub mod Notes
 pub mod Marked
 pub mod Ascending
@@ -20,3 +21,6 @@ pub mod Doings
 pub mod OwnerWalk
 pub mod Sent
 pub mod Named
+pub mod NamedRuns
+pub mod Stacked
+pub mod FileRegisters

@@ -1,17 +1,18 @@
 -- The notes of a run tell the step of every stamp: the first one after which a majority holds it.
-use Rattle.std.proofs.Common.{◌≡◌, ℕ, zero, suc, ◌+◌, ◌-◌, ◌<◌, ◌≤◌, ◌⊎◌, inl, inr, Bool, true, false, List, [], ◌∷◌, ◌++◌, length, get_or, Option, Some, None, refl, ap, ◌∙◌, sym, subst, arith}
+use Rattle.std.proofs.Common.{◌≡◌, ℕ, zero, suc, ◌+◌, ◌-◌, ◌<◌, ◌≤◌, ◌⊎◌, inl, inr, Bool, true, false, List, [], ◌∷◌, ◌++◌, map, length, get_or, Option, Some, None, refl, ap, ◌∙◌, sym, subst, arith}
 use Rattle.std.specs.Prelude.{◌==◌, ◌&&◌, ◌||◌, not, is_some, replicate, if◌then◌else◌}
 use Rattle.std.specs.List.{list_all}
 use Rattle.std.specs.Option.{unwrap_or}
 use Rattle.std.proofs.Math.ListN.{set, length-set}
 use Rattle.std.proofs.lemmas.Bool.{and_parts, eqb-true, eq-eqb, true≢false, false≢true}
-use Rattle.std.proofs.lemmas.List.{length-replicate}
+use Rattle.std.proofs.lemmas.List.{length-replicate, set-get_or}
 use Rattle.rss_names.specs.declared.service.Key.{Key}
 use Rattle.rss_names.specs.declared.service.ServiceId.{ServiceId}
 use Rattle.rss_names.specs.declared.service.ServiceId.TheVariants.{Txn, Reg}
 use Rattle.rss_names.specs.declared.service.Target.{Target}
 use Rattle.rss_names.specs.declared.service.Target.TheVariants.{Shard, Replica}
 use Rattle.rss_names.specs.Services.{same_service, same_key}
+use Rattle.causal_context.specs.declared.dep.Dep.{Dep}
 use Rattle.carstamps.specs.declared.carstamp.Carstamp.{Carstamp}
 use Rattle.carstamps.specs.Stamp.{stamp_le, opening_stamp}
 use Rattle.pipeline_lang.specs.declared.config.Config.{Config}
@@ -35,7 +36,7 @@ use Rattle.rss_machine.specs.State.{State, start, replicas_at, cells_at, marks_a
 use Rattle.rss_machine.specs.Times.{first_held, step_of_stamp, marked_step}
 use Rattle.rss_machine.specs.declared.state.Mark.{Mark}
 use Rattle.rss_machine.specs.declared.step.Step.{Step}
-use Rattle.world_laws.specs.Alone.{is_apart, leaves_alone, IsAlone}
+use Rattle.world_laws.proofs.Alone.{is_apart, leaves_registers, leaves_alone, IsAlone}
 use Rattle.world_laws.specs.Later.{Later}
 use Rattle.world_laws.specs.Proper.{registers_of, are_kept_by, is_proper_body}
 use Rattle.world_laws.proofs.Looks.{looks, none_is_not, get_or_set, get_or_past, get_or_repeat}
@@ -48,8 +49,12 @@ use Rattle.world_laws.proofs.RequestsProper.{proper_run}
 use Rattle.world_laws.proofs.Replies.{meets_envelope, meets_body}
 use Rattle.world_laws.proofs.StoreWalk.{StoreKeeps, SameStores, Serves, store_walk}
 
+-- a list of some is not empty
+cons_not_nil : {X : Type 0} (x : X) (xs : List X) → x ∷ xs ≡ [] → ⊥
+cons_not_nil x xs e = cc
+
 -- the same service and key, by their tests
-same_service_is : (a b : ServiceId) → same_service a b ≡ true → a ≡ b
+pub same_service_is : (a b : ServiceId) → same_service a b ≡ true → a ≡ b
 same_service_is (Txn a) (Txn b) e = ap Txn (eqb-true a b e)
 same_service_is (Reg a) (Reg b) e = ap Reg (eqb-true a b e)
 same_service_is (Txn a) (Reg b) e = absurd (false≢true e)
@@ -87,7 +92,7 @@ only_apart key (k ∷ ks) e =
     by_either (inr a) = inr (same_key_is k key a)
 
 -- a service is itself
-same_service_itself : (a : ServiceId) → same_service a a ≡ true
+pub same_service_itself : (a : ServiceId) → same_service a a ≡ true
 same_service_itself (Txn n) = eq-eqb n n refl
 same_service_itself (Reg n) = eq-eqb n n refl
 
@@ -181,9 +186,49 @@ since_other key u s m service replica o r n k h = record {
     same : get_or (notes_keys (replicas_at (serves_replica s m service replica r) service) s.steps (raised_by r) s.marks) key.index [] ≡ marks_at s key
     same = notes_none (replicas_at (serves_replica s m service replica r) service) s.steps (raised_by r) s.marks key k
 
--- whichever serves it
-since_serves : (key : Key) (u s : State) (m : ℕ) (service : ServiceId) (replica o : ℕ) (r : Request) → are_kept_by service (registers_of r) ≡ true → leaves_alone key (Replica service replica) (body.Request r) ≡ true → Since key u s → Since key u (notes_served (serves_replica s m service replica r) o service r)
-since_serves key u s m service replica o r e l h = by_service (same_service service key.service) refl (either_true (same_service service key.service) (not (service_index service == service_index key.service)) p.0)
+-- a request that raises nothing changes nothing
+raises_nothing : (cells : List RegReply) (r : Request) → raised_by r ≡ [] → replica_after cells r ≡ cells
+unfolding replica_after
+raises_nothing cells (request.Store key value stamp writer) e = absurd (cons_not_nil key [] e)
+raises_nothing cells (request.Fix []) e = refl
+raises_nothing cells (request.Fix (dep ∷ deps)) e = absurd (cons_not_nil dep.key (map (λ (d : Dep). d.key) deps) e)
+raises_nothing cells (request.Ask other) e = refl
+raises_nothing cells (request.Stamp other) e = refl
+raises_nothing cells (request.Lock attempt coordinator reads writes) e = refl
+raises_nothing cells (request.Prepare attempt least earliest_end writes) e = refl
+raises_nothing cells (request.Decide attempt commit time) e = refl
+raises_nothing cells (request.Commit attempt commit_time) e = refl
+raises_nothing cells (request.Abort attempt) e = refl
+raises_nothing cells (request.Inquire attempt) e = refl
+raises_nothing cells (request.Release attempt time last) e = refl
+raises_nothing cells (request.Snapshot read_time least keys skip) e = refl
+
+since_nothing : (key : Key) (u s : State) (m : ℕ) (service : ServiceId) (replica o : ℕ) (r : Request) → raised_by r ≡ [] → Since key u s → Since key u (notes_served (serves_replica s m service replica r) o service r)
+since_nothing key u s m service replica o r e h = record {
+  steps = h.steps;
+  long = subst (λ (ml : List (List Mark)). key.index < length ml) (sym marks) h.long;
+  told = subst (λ (rss : List (List (List RegReply))). AreNoted key (get_or rss (service_index key.service) []) (marks_at t key)) (sym replicas) (subst (λ (ml : List (List Mark)). AreNoted key (replicas_at s key.service) (get_or ml key.index [])) (sym marks) h.told);
+  first = λ z f. subst (λ (ml : List (List Mark)). IsNotedAt u.steps (first_mark (marks_at u key) z) (first_mark (get_or ml key.index []) z)) (sym marks) (h.first z f);
+}
+  where
+    t : State
+    t = notes_served (serves_replica s m service replica r) o service r
+
+    rows : List (List RegReply)
+    rows = replicas_at s service
+
+    one : set rows (replica - 1) (replica_after (cells_at s service replica) r) ≡ rows
+    one = ap (λ (cells : List RegReply). set rows (replica - 1) cells) (raises_nothing (cells_at s service replica) r e) ∙ set-get_or rows (replica - 1) []
+
+    replicas : t.replicas ≡ s.replicas
+    replicas = ap (λ (rs : List (List RegReply)). set s.replicas (service_index service) rs) one ∙ set-get_or s.replicas (service_index service) []
+
+    marks : t.marks ≡ s.marks
+    marks = ap (λ (ks : List Key). notes_keys (replicas_at (serves_replica s m service replica r) service) s.steps ks s.marks) e
+
+-- whichever serves a request that raises registers
+since_raises : (key : Key) (u s : State) (m : ℕ) (service : ServiceId) (replica o : ℕ) (r : Request) → are_kept_by service (registers_of r) ≡ true → ((same_service service key.service || not (service_index service == service_index key.service)) && list_all (is_apart key) (raised_by r)) ≡ true → Since key u s → Since key u (notes_served (serves_replica s m service replica r) o service r)
+since_raises key u s m service replica o r e l h = by_service (same_service service key.service) refl (either_true (same_service service key.service) (not (service_index service == service_index key.service)) p.0)
   where
     p : ((same_service service key.service || not (service_index service == service_index key.service)) ≡ true) × (list_all (is_apart key) (raised_by r) ≡ true)
     p = and_parts (same_service service key.service || not (service_index service == service_index key.service)) (list_all (is_apart key) (raised_by r)) l
@@ -197,6 +242,14 @@ since_serves key u s m service replica o r e l h = by_service (same_service serv
     by_service false f (inr a) =
         let n = not_equal (service_index service) (service_index key.service) a in
         since_other key u s m service replica o r n (kept_apart key service (raised_by r) (λ q. n (ap service_index q)) (raised_kept service r e) only) h
+
+-- whichever serves it
+since_serves : (key : Key) (u s : State) (m : ℕ) (service : ServiceId) (replica o : ℕ) (r : Request) → are_kept_by service (registers_of r) ≡ true → leaves_alone key (Replica service replica) (body.Request r) ≡ true → Since key u s → Since key u (notes_served (serves_replica s m service replica r) o service r)
+since_serves key u s m service replica o r e l h = by_raised (raised_by r) refl l
+  where
+    by_raised : (ks : List Key) → raised_by r ≡ ks → leaves_registers key service ks ≡ true → Since key u (notes_served (serves_replica s m service replica r) o service r)
+    by_raised [] f l = since_nothing key u s m service replica o r f h
+    by_raised (k ∷ ks) f l = since_raises key u s m service replica o r e (subst (λ (js : List Key). ((same_service service key.service || not (service_index service == service_index key.service)) && list_all (is_apart key) js) ≡ true) (sym f) l) h
 
 -- every message that was sent is proper, and leaves the register alone
 Quiet : Key → List Message → Type 0

@@ -88,7 +88,7 @@ phase_deps (phase.Storing stamp) = []
 phase_deps (phase.Done end) = end_deps end
 
 module _ (K : Key → Type 0) where
-  abbrev Kept : Dep → Type 0
+  abbrev pub Kept : Dep → Type 0
   Kept dep = K dep.key
 
   -- a round works on such registers, and leaves dependencies on such
@@ -119,7 +119,7 @@ module _ (K : Key → Type 0) where
     pub deps : AllDeps Kept s
     pub messages : SentAll RequestOn s.net
 
-  owner_on : (s : State) (o : ℕ) → All OwnerOn s.owners → OwnerOn (owner_at s o)
+  pub owner_on : (s : State) (o : ℕ) → All OwnerOn s.owners → OwnerOn (owner_at s o)
   owner_on s o h = at_place OwnerOn s.owners o no_owner (record { does = All-nil K; under_way = tt }) h
 
   -- a phase asks about the registers of its work
@@ -143,11 +143,11 @@ module _ (K : Key → Type 0) where
   round_on : (o : ℕ) (r : RegSession) (out : Out) → WorksOn r → RoundOut r out → RequestOn o out.target out.request
   round_on o r out h d = subst (λ (t : Target). RequestOn o t out.request) (sym d.target) (phase_on r.call r.work r.phase out.request h.work d.asked)
 
-  shard_on : (o : ℕ) (target : Target) (r : Request) → to_shard target r ≡ true → RequestOn o target r
+  pub shard_on : (o : ℕ) (target : Target) (r : Request) → to_shard target r ≡ true → RequestOn o target r
   shard_on o (Shard n) r e = tt
   shard_on o (Replica service replica) r e = absurd (false≢true e)
 
-  out_on : (o : ℕ) (x : Session) (out : Out) → SessionOn x → SessionOut x out → RequestOn o out.target out.request
+  pub out_on : (o : ℕ) (x : Session) (out : Out) → SessionOn x → SessionOut x out → RequestOn o out.target out.request
   out_on o (session.Fixing r) out h d = round_on o r out h d
   out_on o (session.Register r) out h d = round_on o r out h d
   out_on o session.Idle out h d = shard_on o out.target out.request d
@@ -196,18 +196,18 @@ module _ (K : Key → Type 0) where
   fixed_on s o id h = All-map K (λ (dep : Dep). dep.key) (deps_of id (owner_at s o).works.copy.deps) (of_hold Kept id (owner_at s o).works.copy.deps (copy_holds Kept s o h))
 
   -- owners go on with what they do
-  resting_on : (s : State) (o : ℕ) (w : Owner) → Resting s o w → OwnerOn (owner_at s o) → OwnerOn w
+  pub resting_on : (s : State) (o : ℕ) (w : Owner) → Resting s o w → OwnerOn (owner_at s o) → OwnerOn w
   resting_on s o _ (plans e b) h = record { does = h.does; under_way = tt }
   resting_on s o _ (past id x rest time l e) h = record { does = h.does; under_way = tt }
   resting_on s o _ (fixed id x rest r e l a b d) h = record { does = h.does; under_way = tt }
   resting_on s o _ (cleared r e l a b d) h = record { does = h.does; under_way = tt }
 
-  working_on : (at : Reading) (s : State) (o : ℕ) (w : Owner) → Working at s o w → OwnerOn (owner_at s o) → OwnerOn w
+  pub working_on : (at : Reading) (s : State) (o : ℕ) (w : Owner) → Working at s o w → OwnerOn (owner_at s o) → OwnerOn w
   working_on at s o _ (owes_nothing id rest l) h = record { does = h.does; under_way = tt }
   working_on at s o _ (is_past id time rest l e) h = record { does = h.does; under_way = tt }
   working_on at s o _ (enters_own x l e f) h = record { does = h.does; under_way = h.under_way }
 
-  leaving_on : (c : Config) (at : Reading) (s : State) (o : ℕ) (w : Owner) (outs : List Out) → Leaving c at s o w outs → AllDeps Kept s → OwnerOn (owner_at s o) → OwnerOn w
+  pub leaving_on : (c : Config) (at : Reading) (s : State) (o : ℕ) (w : Owner) (outs : List Out) → Leaving c at s o w outs → AllDeps Kept s → OwnerOn (owner_at s o) → OwnerOn w
   leaving_on c at s o _ _ (waits id time rest l) d h = record { does = h.does; under_way = h.under_way }
   leaving_on c at s o _ _ (fixes_work id rest l) d h = record { does = h.does; under_way = opening_on c s o _ id (fixed_on s o id d) }
   leaving_on c at s o _ _ (fixes_own x dep deps l e f) d h = record { does = h.does; under_way = opening_on c s o _ _ (fixed_on s o _ d) }
@@ -228,7 +228,7 @@ module _ (K : Key → Type 0) where
   under_on : (s : State) (o : ℕ) (x : Session) → session_at s o ≡ x → OwnerOn (owner_at s o) → SessionOn x
   under_on s o x e h = subst SessionOn e h.under_way
 
-  doing_on : (s : State) (o : ℕ) (w : Owner) (outs : List Out) (new : List Dep) → Doing s o w outs new → OwnerOn (owner_at s o) → OwnerOn w
+  pub doing_on : (s : State) (o : ℕ) (w : Owner) (outs : List Out) (new : List Dep) → Doing s o w outs new → OwnerOn (owner_at s o) → OwnerOn w
   doing_on s o _ _ _ (listens_one slot r d) h = record { does = h.does; under_way = h.under_way }
   doing_on s o _ _ _ (fix_hears f slot r x d e) h = record { does = h.does; under_way = after_on f _ r (under_on s o (session.Fixing f) x h) }
   doing_on s o _ _ _ (fix_reached f slot r g x d e) h = record { does = h.does; under_way = after_on f _ r (under_on s o (session.Fixing f) x h) }
@@ -247,7 +247,7 @@ module _ (K : Key → Type 0) where
   doing_on s o _ _ _ (stub_asks attempt shards e b) h = record { does = h.does; under_way = tt }
 
   -- the dependencies that are new
-  new_on : (s : State) (o : ℕ) (w : Owner) (outs : List Out) (new : List Dep) → Doing s o w outs new → OwnerOn (owner_at s o) → All Kept new
+  pub new_on : (s : State) (o : ℕ) (w : Owner) (outs : List Out) (new : List Dep) → Doing s o w outs new → OwnerOn (owner_at s o) → All Kept new
   new_on s o _ _ _ (listens_one slot r d) h = All-nil Kept
   new_on s o _ _ _ (fix_hears f slot r x d e) h = All-nil Kept
   new_on s o _ _ _ (fix_reached f slot r g x d e) h = All-nil Kept

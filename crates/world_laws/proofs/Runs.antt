@@ -81,3 +81,12 @@ run_from_split c (step ∷ steps) more u s t e f =
 pub run_split : (c : Config) (steps more : List Step) (s t : State) → run c steps ≡ Some s → run c (steps ++ more) ≡ Some t → run_from c s more ≡ Some t
 unfolding run
 run_split c steps more s t e f = run_from_split c steps more (start c) s t e f
+
+-- what every step that is not refused keeps, every run keeps
+pub steps_keep : (c : Config) (P : State → Type 0) → ((s : State) (step : Step) → refusal c s step ≡ None → P s → P (stepped c s step)) → (steps : List Step) (u s : State) → run_from c u steps ≡ Some s → P u → P s
+steps_keep c P f [] u s e h = subst P (run_none c u s e) h
+steps_keep c P f (step ∷ steps) u s e h = let t = run_rest c u step steps s e in steps_keep c P f steps (stepped c u step) s t.1 (f u step t.0 h)
+
+pub run_keeps : (c : Config) (P : State → Type 0) → ((s : State) (step : Step) → refusal c s step ≡ None → P s → P (stepped c s step)) → P (start c) → (steps : List Step) (s : State) → run c steps ≡ Some s → P s
+unfolding run
+run_keeps c P f h steps s e = steps_keep c P f steps (start c) s e h

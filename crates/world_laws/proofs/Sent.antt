@@ -20,7 +20,8 @@ use Rattle.rss_wire.specs.declared.message.Message.{Message}
 use Rattle.rss_wire.specs.declared.messages.Outcome.{Outcome}
 use Rattle.rss_wire.specs.declared.messages.Reply.{Reply}
 use Rattle.rss_wire.specs.declared.messages.Request.{Request}
-use Rattle.rss_wire.specs.Messages.{message_at, asks, answers, meets, request_envelope, reply_envelope}
+use Rattle.rss_wire.specs.declared.messages.Reply.TheVariants as reply
+use Rattle.rss_wire.specs.Messages.{message_at, no_messages, asks, answers, meets, request_envelope, reply_envelope}
 use Rattle.rss_tables.specs.Lines.{tells_decision}
 use Rattle.rss_tables.specs.Outs.{Out, awaited, replica_slot, slot_replica}
 use Rattle.rss_tables.specs.RegisterSession.{RegSession, phase_request, requests_from, round_requests, session_after}
@@ -159,3 +160,18 @@ sent_answers Q net m r h = sent_more Q net (record { envelope = reply_envelope n
   where
     reply_not_request : (r : Reply) (p : Request) → body.Reply r ≡ body.Request p → ⊥
     reply_not_request r p e = cc
+
+-- before the first step no request was sent
+pub sent_none : (Q : ℕ → Target → Request → Type 0) → SentAll Q no_messages
+sent_none Q = record { each = each }
+  where
+    reply_not_request : (r : Reply) (p : Request) → body.Reply r ≡ body.Request p → ⊥
+    reply_not_request r p e = cc
+
+    each : (m : ℕ) → Asks Q (message_at no_messages m)
+    each zero r e = absurd (reply_not_request reply.Done r e)
+    each (suc m) r e = absurd (reply_not_request reply.Done r e)
+
+-- what follows from what is true of each request
+pub sent_weaker : (Q S : ℕ → Target → Request → Type 0) → ((o : ℕ) (t : Target) (r : Request) → Q o t r → S o t r) → (net : List Message) → SentAll Q net → SentAll S net
+sent_weaker Q S f net h = record { each = λ m r e. f _ _ r (h.each m r e) }

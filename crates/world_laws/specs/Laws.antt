@@ -1,11 +1,16 @@
 -- What holds of every run.
-use Rattle.std.specs.Prelude.{◌≡◌, ℕ, ◌<◌, ◌≤◌, ◌+◌, ◌↔◌, true, List, [], ◌∷◌, ◌++◌, length, Some, None}
+use Rattle.std.specs.Prelude.{◌≡◌, ℕ, ◌<◌, ◌≤◌, ◌+◌, ◌↔◌, List, [], ◌∷◌, ◌++◌, length, Some, None}
 use Rattle.std.specs.List.{All}
 use Rattle.truetime.specs.Reading.{Reading, AreConsistent}
 use Rattle.truetime.specs.TrueMoment.{IsTrueMoment, true_moment}
 use Rattle.rss_names.specs.declared.service.Key.{Key}
+use Rattle.rss_names.specs.declared.service.ServiceId.{ServiceId}
+use Rattle.rss_names.specs.declared.service.Target.TheVariants.{Replica}
 use Rattle.carstamps.specs.declared.carstamp.Carstamp.{Carstamp}
 use Rattle.pipeline_lang.specs.declared.config.Config.{Config}
+use Rattle.rss_wire.specs.Messages.{message_at}
+use Rattle.rss_wire.specs.declared.message.Body.TheVariants as body
+use Rattle.rss_wire.specs.declared.messages.Request.{Request}
 use Rattle.rss_machine.specs.State.{State, marks_at}
 use Rattle.rss_machine.specs.Effect.{stepped}
 use Rattle.rss_machine.specs.Refusal.{refusal}
@@ -13,12 +18,12 @@ use Rattle.rss_machine.specs.Run.{run, steps_of, readings_of}
 use Rattle.rss_machine.specs.Times.{step_of_time, step_of_stamp, marked_step}
 use Rattle.rss_machine.specs.declared.step.Logged.{Logged}
 use Rattle.rss_machine.specs.declared.step.Step.{Step}
-use Rattle.world_laws.specs.Alone.{IsAlone}
 use Rattle.world_laws.specs.Ascending.{Ascending}
 use Rattle.world_laws.specs.Exchanges.{Exchanges}
 use Rattle.world_laws.specs.Later.{Later}
 use Rattle.world_laws.specs.Own.{AreOwn}
-use Rattle.world_laws.specs.Proper.{AreProper}
+use Rattle.world_laws.specs.Proper.{AreProper, registers_of}
+use Rattle.world_laws.specs.Registers.{IsRegister, NamesRegisters}
 
 -- a run goes on by a step that is not refused
 abbrev pub RunsGoOn : Type 0
@@ -81,10 +86,20 @@ RepliesFit = (c : Config) (steps : List Step) (s : State) → run c steps ≡ So
 abbrev pub RequestsAreProper : Type 0
 RequestsAreProper = (c : Config) (steps : List Step) (s : State) → run c steps ≡ Some s → AreProper s
 
--- the notes of a state tell the step of every stamp of a register whose number no other one that is written has
+-- every register that a replica is asked about is one of the file
+abbrev pub AsksRegisters : Config → State → Type 0
+AsksRegisters c s =
+    (m : ℕ) (service : ServiceId) (replica : ℕ) (r : Request) → (message_at s.net m).envelope.target ≡ Replica service replica → (message_at s.net m).body ≡ body.Request r → All (IsRegister c) (registers_of r)
+
+-- where the scripts name registers of the file alone, replicas are asked about such alone
+abbrev pub RegistersAreTheFiles : Type 0
+RegistersAreTheFiles =
+    (c : Config) (steps : List Step) (s : State) → NamesRegisters c → run c steps ≡ Some s → AsksRegisters c s
+
+-- the notes of a state tell the step of every stamp of a register of the file
 abbrev pub MarksTellSteps : Type 0
 MarksTellSteps =
-    (c : Config) (key : Key) (stamp : Carstamp) (steps : List Step) (s : State) → key.index < length c.registers → run c steps ≡ Some s → IsAlone key s.net → step_of_stamp c steps key stamp ≡ marked_step s key stamp
+    (c : Config) (key : Key) (stamp : Carstamp) (steps : List Step) (s : State) → NamesRegisters c → IsRegister c key → run c steps ≡ Some s → step_of_stamp c steps key stamp ≡ marked_step s key stamp
 
 -- the notes of each register ascend
 abbrev pub MarksAscend : Type 0

@@ -2,7 +2,6 @@ pub mod Later
 pub mod Exchanges
 pub mod Proper
 pub mod Own
-pub mod Alone
 pub mod Ascending
 pub mod Registers
 pub mod Laws

@@ -1,6 +1,6 @@
 //! The laws of runs. They hold no code: each is the contract of a function that does nothing.
 
-ghost use Rattle.world_laws.specs.Laws.{RunsGoOn, RunsAreCounted, LogsGrow, ReadingsAreConsistent, MomentsAreTrue, TimesHaveSteps, StepsOfTimesStay, NothingChangesBack, RepliesFit, RequestsAreProper, StoresAreOwn, MarksTellSteps, MarksAscend};
+ghost use Rattle.world_laws.specs.Laws.{RunsGoOn, RunsAreCounted, LogsGrow, ReadingsAreConsistent, MomentsAreTrue, TimesHaveSteps, StepsOfTimesStay, NothingChangesBack, RepliesFit, RequestsAreProper, StoresAreOwn, RegistersAreTheFiles, MarksTellSteps, MarksAscend};
 
 /// A run goes on by every step that is not refused.
 #[tactic(auto, using(crate::proofs::Runs::run_more))]
@@ -73,10 +73,17 @@ pub fn stores_are_own()
     ensures { StoresAreOwn }
 {}
 
-/// The noted step of a stamp is the first step after which a majority of the register's replicas
-/// holds that stamp or a greater one, for each register of the file whose number no other one that is
-/// written has, and whose service's place no other service that is asked has.
-#[tactic(auto, using(crate::proofs::Marked::marks_tell))]
+/// Where the scripts name registers of the file alone, every register that a replica is asked about, by
+/// a call or by a round of dependencies, is one of the file.
+#[tactic(auto, using(crate::proofs::FileRegisters::asks_registers))]
+pub fn registers_are_the_files()
+    ensures { RegistersAreTheFiles }
+{}
+
+/// Where the scripts name registers of the file alone, the noted step of a stamp is, for each register
+/// of the file, the first step after which a majority of the register's replicas holds that stamp or a
+/// greater one.
+#[tactic(auto, using(crate::proofs::FileRegisters::marks_tell_all))]
 pub fn marks_tell_steps()
     ensures { MarksTellSteps }
 {}
