@@ -75,7 +75,6 @@ pub fn stores_are_own()
 
 /// Where the scripts name registers of the file alone, every register that a replica is asked about, by
 /// a call or by a round of dependencies, is one of the file.
-#[tactic(auto, using(crate::proofs::FileRegisters::asks_registers))]
 pub fn registers_are_the_files()
     ensures { RegistersAreTheFiles }
 {}
