@@ -179,7 +179,7 @@ pub at_own : (s : State) (o : ℕ) (w : Owner) → o < length s.owners → owner
 at_own s o w i = get_or-set_same s.owners o w no_owner i
 
 -- an owner with something under way, or that waits, is there
-abbrev is_busy : Session → Bool
+abbrev pub is_busy : Session → Bool
 is_busy session.Idle = false
 is_busy (session.Fixing r) = true
 is_busy (session.Register r) = true
@@ -187,7 +187,7 @@ is_busy (session.Transaction t) = true
 is_busy (session.Snapshot t) = true
 is_busy (session.Settling attempt shards) = true
 
-busy_there : (s : State) (o : ℕ) (x : Session) → session_at s o ≡ x → is_busy x ≡ true → o < length s.owners
+pub busy_there : (s : State) (o : ℕ) (x : Session) → session_at s o ≡ x → is_busy x ≡ true → o < length s.owners
 busy_there s o x e b = by_place (get_or_past s.owners o no_owner)
   where
     by_place : (o < length s.owners) ⊎ (owner_at s o ≡ no_owner) → o < length s.owners

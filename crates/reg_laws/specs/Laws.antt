@@ -1,0 +1,15 @@
+-- What holds of rounds and of what replicas keep, in every run.
+use Rattle.std.specs.Prelude.{◌≡◌, List, Some}
+use Rattle.pipeline_lang.specs.declared.config.Config.{Config}
+use Rattle.rss_machine.specs.Run.{run}
+use Rattle.rss_machine.specs.State.{State}
+use Rattle.rss_machine.specs.declared.step.Step.{Step}
+use Rattle.reg_laws.specs.Awaited.{CurrentsAwaited, RepliesAreOwn}
+
+-- each current exchange is awaited
+abbrev pub CurrentsAreAwaited : Type 0
+CurrentsAreAwaited = (c : Config) (steps : List Step) (s : State) → run c steps ≡ Some s → CurrentsAwaited s
+
+-- a reply that is heard in a round answers the round's own request
+abbrev pub HeardRepliesAreOwn : Type 0
+HeardRepliesAreOwn = (c : Config) (steps : List Step) (s : State) → run c steps ≡ Some s → RepliesAreOwn s

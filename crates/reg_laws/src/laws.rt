@@ -1,0 +1,18 @@
+//! The laws of rounds. They hold no code: each is the contract of a function that does nothing.
+
+ghost use Rattle.reg_laws.specs.Laws.{CurrentsAreAwaited, HeardRepliesAreOwn};
+
+/// In every run each current exchange of an owner is one that it awaits: with a round under way it is
+/// the owner's request of the round's phase to the replica of its slot, and an owner with nothing
+/// under way awaits nothing.
+#[tactic(auto, using(crate::proofs::Awaits::awaited_run))]
+pub fn currents_are_awaited()
+    ensures { CurrentsAreAwaited }
+{}
+
+/// In every run a reply that is heard in a round answers the round's own request to the replica of the
+/// slot, as that replica's row does in some state.
+#[tactic(auto, using(crate::proofs::Awaits::own_run))]
+pub fn heard_replies_are_own()
+    ensures { HeardRepliesAreOwn }
+{}

@@ -1,0 +1,6 @@
+//! Theory: the rounds of register calls and of dependencies, and what replicas keep, in every run.
+#![tactic(auto)]
+
+mod laws;
+
+pub use laws::{currents_are_awaited, heard_replies_are_own};
