@@ -33,7 +33,7 @@ use Rattle.rss_wire.specs.declared.messages.Request.TheVariants as request
 use Rattle.rss_tables.specs.Lines.{tells_decision}
 use Rattle.rss_tables.specs.Outs.{Out}
 use Rattle.rss_tables.specs.RegisterSession.{RegSession, phase_request, session_after, reached, reply_cell, read_end, read_dep, found_cell}
-use Rattle.rss_tables.specs.Round.{hears, is_reached, greatest_heard, is_agreed}
+use Rattle.rss_tables.specs.Round.{Round, was_heard, hears, is_reached, greatest_heard, is_agreed}
 use Rattle.rss_tables.specs.declared.register_session.RegEnd.{RegEnd}
 use Rattle.rss_tables.specs.declared.register_session.RegEnd.TheVariants as ends
 use Rattle.rss_tables.specs.declared.register_session.RegPhase.{RegPhase}
@@ -125,6 +125,7 @@ asked_stays net net' o r slot m l e b h = record {
   target = ap (λ (v : Envelope). v.target) e ∙ h.target;
   request = h.request;
   says = b ∙ h.says;
+  within = h.within;
   of_phase = h.of_phase;
 }
 
@@ -221,6 +222,7 @@ round_awaited net o n r out slot d e =
       target = ap (λ (y : Message). y.envelope.target) q ∙ (d.target ∙ ap (λ (i : ℕ). Replica r.service i) l);
       request = out.request;
       says = ap (λ (y : Message). y.body) q;
+      within = let n = d.within in let one = d.from_one in omega (arith, k, n, one);
       of_phase = d.asked;
     }
 
@@ -471,6 +473,7 @@ record SameRound (f g : RegSession) : Type 0 where
   work : g.work ≡ f.work
   service : g.service ≡ f.service
   phase : g.phase ≡ f.phase
+  replicas : g.round.replicas ≡ f.round.replicas
 
 asked_same : (net : List Message) (o : ℕ) (f g : RegSession) (slot m : ℕ) → SameRound f g → IsAsked net o f slot m → IsAsked net o g slot m
 asked_same net o f g slot m e h = record {
@@ -479,8 +482,13 @@ asked_same net o f g slot m e h = record {
   target = h.target ∙ ap (λ (id : ServiceId). Replica id (slot_replica slot)) (sym e.service);
   request = h.request;
   says = h.says;
+  within = subst (λ (n : ℕ). slot < n) (sym e.replicas) h.within;
   of_phase = ap (λ (n : ℕ). phase_request n g.work g.phase) e.call ∙ (ap (λ (w : RegWork). phase_request f.call w g.phase) e.work ∙ (ap (λ (p : RegPhase). phase_request f.call f.work p) e.phase ∙ h.of_phase));
 }
+
+-- a round keeps its number of replicas
+pub hears_replicas : (round : Round) (from : ℕ) (cell : RegReply) → (hears round from cell).replicas ≡ round.replicas
+hears_replicas round from cell = cond_both (was_heard round from) round _ (λ (x : Round). x.replicas ≡ round.replicas) (λ t. refl) (λ f. refl)
 
 -- a round that goes on asks the same
 after_same : (f : RegSession) (from : ℕ) (r : Reply) → phase_end (session_after f from r).phase ≡ None → opens_round f.phase (session_after f from r).phase ≡ false → SameRound f (session_after f from r)
@@ -490,12 +498,12 @@ after_same f from r = by_reach (is_reached (hears f.round from (reply_cell r))) 
     h = record f { round = hears f.round from (reply_cell r) }
 
     by_reach : (t : Bool) (p : RegPhase) → f.phase ≡ p → phase_end (if t then reached h p else h).phase ≡ None → opens_round f.phase (if t then reached h p else h).phase ≡ false → SameRound f (if t then reached h p else h)
-    by_reach false p e a b = record { call = refl; work = refl; service = refl; phase = refl }
+    by_reach false p e a b = record { call = refl; work = refl; service = refl; phase = refl; replicas = hears_replicas f.round from (reply_cell r) }
     by_reach true phase.Fixing e a b = absurd (some_is_not _ a)
     by_reach true phase.Asking e a b = absurd (some_is_not _ a)
     by_reach true phase.Stamping e a b = absurd (true≢false (ap (λ (p : RegPhase). opens_round p (phase.Storing (next_stamp (found_cell (greatest_heard h.round)).stamp h.call))) (sym e) ∙ b))
     by_reach true (phase.Storing stamp) e a b = absurd (some_is_not _ a)
-    by_reach true (phase.Done end) e a b = record { call = refl; work = refl; service = refl; phase = refl }
+    by_reach true (phase.Done end) e a b = record { call = refl; work = refl; service = refl; phase = refl; replicas = hears_replicas f.round from (reply_cell r) }
 
 opens_false : (p q : RegPhase) → (p ≡ phase.Stamping → ⊥) → opens_round p q ≡ false
 opens_false phase.Fixing q n = refl
@@ -510,7 +518,7 @@ fix_not_stamping call (work.Read key) p q i e f = i
 fix_not_stamping call (work.Write key value) p q i e f = i
 
 without_same : (f : RegSession) (id : ServiceId) (replica : ℕ) → SameRound f (round_without f id replica)
-without_same f id replica = cond_both (same_service f.service id) _ f (SameRound f) (λ t. record { call = refl; work = refl; service = refl; phase = refl }) (λ t. record { call = refl; work = refl; service = refl; phase = refl })
+without_same f id replica = cond_both (same_service f.service id) _ f (SameRound f) (λ t. record { call = refl; work = refl; service = refl; phase = refl; replicas = refl }) (λ t. record { call = refl; work = refl; service = refl; phase = refl; replicas = refl })
 
 -- what is awaited with a replica cut off
 without_awaited : (net : List Message) (o : ℕ) (x : Session) (id : ServiceId) (replica slot m : ℕ) → IsAwaited net o x slot m → IsAwaited net o (session_without x (Replica id replica)) slot m
@@ -700,6 +708,7 @@ again_awaited s o exchange slot target r d g h = record { each = set_each (OwnAw
       target = ap (λ (y : Message). y.envelope.target) at_new ∙ (sym b.target_of ∙ a.target);
       request = a.request;
       says = ap (λ (y : Message). y.body) at_new ∙ (sym b.asked ∙ a.says);
+      within = a.within;
       of_phase = a.of_phase;
     }
 

@@ -22,6 +22,7 @@ pub record IsAsked (net : List Message) (o : ℕ) (r : RegSession) (slot exchang
   pub target : (message_at net exchange).envelope.target ≡ Replica r.service (slot_replica slot)
   pub request : Request
   pub says : (message_at net exchange).body ≡ body.Request request
+  pub within : slot < r.round.replicas
   pub of_phase : phase_request r.call r.work r.phase ≡ Some request
 
 -- what an owner awaits in a slot: with a round under way its own request, with nothing under way

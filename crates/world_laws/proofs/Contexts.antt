@@ -19,33 +19,8 @@ use Rattle.rss_tables.specs.Pipes.{Pipe, Chunk, EndMark, no_mark, fenced_mark, b
 use Rattle.rss_machine.specs.Standing.{exit_context, exit_context_of}
 use Rattle.rss_machine.specs.State.{State, Stage, Owner, start, stages_from, opening_stage, no_stage, no_owner, stage_at, owner_at, pipe_at}
 use Rattle.rss_machine.specs.declared.state.Life.TheVariants.{Unborn, Live}
+use Rattle.world_laws.specs.Contexts.{mark_deps, StageHolds, CopyHolds, ChunkHolds, PipeHolds, AllDeps}
 use Rattle.world_laws.proofs.Looks.{get_or_past}
-
--- the dependencies that lie with an end mark
-abbrev pub mark_deps : EndMark → List Dep
-mark_deps no_mark = []
-mark_deps (fenced_mark number seen) = seen.deps
-mark_deps bare_mark = []
-
--- each dependency of a stage, of a copy, and of a pipe
-abbrev pub StageHolds : (Dep → Type 0) → Stage → Type 0
-StageHolds G stage = All G stage.context.deps
-
-abbrev pub CopyHolds : (Dep → Type 0) → Owner → Type 0
-CopyHolds G owner = All G owner.works.copy.deps
-
-abbrev pub ChunkHolds : (Dep → Type 0) → Chunk → Type 0
-ChunkHolds G chunk = All G chunk.context.deps
-
-pub record PipeHolds (G : Dep → Type 0) (pipe : Pipe) : Type 0 where
-  pub chunks : All (ChunkHolds G) pipe.chunks
-  pub mark : All G (mark_deps pipe.mark)
-
--- each dependency of a state
-pub record AllDeps (G : Dep → Type 0) (s : State) : Type 0 where
-  pub stages : All (StageHolds G) s.stages
-  pub pipes : All (PipeHolds G) s.pipes
-  pub copies : All (CopyHolds G) s.owners
 
 -- what is true of all dependencies, through what is done to lists of them
 put_holds : (G : Dep → Type 0) (new : Dep) (deps : List Dep) → G new → All G deps → All G (put_dep new deps)

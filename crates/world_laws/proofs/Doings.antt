@@ -48,7 +48,7 @@ use Rattle.rss_machine.specs.declared.session.OwnerKind.TheVariants as kind
 use Rattle.rss_machine.specs.declared.session.Session.TheVariants as session
 use Rattle.rss_machine.specs.declared.state.OwnerFate.{OwnerFate}
 use Rattle.rss_machine.specs.declared.state.OwnerFate.TheVariants.{Ended}
-use Rattle.world_laws.proofs.Contexts.{AllDeps}
+use Rattle.world_laws.specs.Contexts.{AllDeps}
 use Rattle.world_laws.proofs.SessionWalk.{session_at}
 use Rattle.world_laws.proofs.StoreWalk.{SameStores}
 

@@ -24,3 +24,4 @@ pub mod Named
 pub mod NamedRuns
 pub mod Stacked
 pub mod FileRegisters
+pub mod SessionOwner

@@ -53,7 +53,8 @@ use Rattle.rss_machine.specs.declared.session.Session.TheVariants as session
 use Rattle.rss_machine.specs.declared.step.Step.{Step}
 use Rattle.world_laws.specs.Proper.{registers_of, work_registers}
 use Rattle.world_laws.specs.Registers.{statement_registers}
-use Rattle.world_laws.proofs.Contexts.{AllDeps, CopyHolds, at_place, of_hold, copy_holds, deps_start}
+use Rattle.world_laws.specs.Contexts.{AllDeps, CopyHolds}
+use Rattle.world_laws.proofs.Contexts.{at_place, of_hold, copy_holds, deps_start}
 use Rattle.world_laws.proofs.Doings.{Changed, Heard, Beginning, calls, fences, Resting, plans, past, fixed, cleared, Working, owes_nothing, is_past, enters_own, Leaving, waits, fixes_work, fixes_own, asks_register, stamps_register, begins_snapshot, begins_txn, fence_done, stub_done, ShardTurning, txn_heard, txn_woken, txn_passed, snap_heard, snap_woken, Doing, listens_one, fix_hears, fix_reached, register_hears, register_stores, register_reached, read_ends, write_ends, txn_ends, snap_ends, counts_one, cuts_one, is_closed, forgets_all, turns, stub_asks}
 use Rattle.std.proofs.lemmas.Bool.{false≢true}
 use Rattle.world_laws.proofs.Looks.{looks, some_is, none_is_not}

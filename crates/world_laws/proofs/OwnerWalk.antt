@@ -105,7 +105,8 @@ use Rattle.rss_machine.specs.State.{no_currents, opening_owner}
 use Rattle.rss_machine.specs.declared.state.Life.TheVariants as life
 use Rattle.rss_machine.specs.declared.state.OwnerFate.TheVariants.{Ended, CutOff}
 use Rattle.rss_machine.specs.declared.turn.Enabling.TheVariants.{Never}
-use Rattle.world_laws.proofs.Contexts.{AllDeps, StageHolds, CopyHolds, ChunkHolds, PipeHolds, mark_deps, joined_hold, fenced_hold, stage_holds, stages_hold, copy_holds, pipe_holds, exit_holds, put_pipe, taken_pipe}
+use Rattle.world_laws.specs.Contexts.{AllDeps, StageHolds, CopyHolds, ChunkHolds, PipeHolds, mark_deps}
+use Rattle.world_laws.proofs.Contexts.{joined_hold, fenced_hold, stage_holds, stages_hold, copy_holds, pipe_holds, exit_holds, put_pipe, taken_pipe}
 use Rattle.world_laws.proofs.Doings.{Changed, Heard, fence_ended, turned, launched, listened, heard_to, reached_to, fix_session, Beginning, calls, fences, Resting, plans, past, fixed, cleared, Working, owes_nothing, is_past, enters_own, Leaving, waits, fixes_work, fixes_own, asks_register, stamps_register, begins_snapshot, begins_txn, fence_done, stub_done, ShardTurning, txn_heard, txn_woken, txn_passed, snap_heard, snap_woken, Doing, listens_one, fix_hears, fix_reached, register_hears, register_stores, register_reached, read_ends, write_ends, txn_ends, snap_ends, counts_one, cuts_one, is_closed, forgets_all, turns, stub_asks}
 use Rattle.world_laws.proofs.Looks.{none_is_not, some_is}
 use Rattle.world_laws.proofs.SessionWalk.{session_at, IsLost, IsAgain}

@@ -46,6 +46,7 @@ ToShard out = to_shard out.target out.request ≡ true
 pub record RoundOut (r : RegSession) (out : Out) : Type 0 where
   pub replica : ℕ
   pub from_one : 1 ≤ replica
+  pub within : replica ≤ r.round.replicas
   pub slot : out.slot ≡ Some (replica_slot replica)
   pub target : out.target ≡ Replica r.service replica
   pub asked : phase_request r.call r.work r.phase ≡ Some out.request
@@ -67,15 +68,15 @@ shard_to : (n : ℕ) (r : Request) → to_shard (Shard n) r ≡ true
 shard_to n r = refl
 
 pub round_outs : (r : RegSession) → All (RoundOut r) (awaited (round_requests r))
-round_outs r = from (phase_request r.call r.work r.phase) refl r.round.replicas 1 (omega arith)
+round_outs r = from (phase_request r.call r.work r.phase) refl r.round.replicas 1 (omega arith) (omega arith)
   where
-    from : (q : Option Request) → phase_request r.call r.work r.phase ≡ q → (left place : ℕ) → 1 ≤ place → All (RoundOut r) (awaited (requests_from r.service q place r.round.cut left))
-    from None e left place l = All-nil (RoundOut r)
-    from (Some q) e zero place l = All-nil (RoundOut r)
-    from (Some q) e (suc left) place l =
-        let more = from (Some q) e left (place + 1) (omega (arith, l)) in
+    from : (q : Option Request) → phase_request r.call r.work r.phase ≡ q → (left place : ℕ) → 1 ≤ place → place + left ≡ 1 + r.round.replicas → All (RoundOut r) (awaited (requests_from r.service q place r.round.cut left))
+    from None e left place l k = All-nil (RoundOut r)
+    from (Some q) e zero place l k = All-nil (RoundOut r)
+    from (Some q) e (suc left) place l k =
+        let more = from (Some q) e left (place + 1) (omega (arith, l)) (omega (arith, k)) in
         cond_both (get_or r.round.cut (place - 1) false) _ _ (λ (rs : List (Target × Request)). All (RoundOut r) (awaited rs)) (λ t. more)
-        (λ f. All-cons (RoundOut r) _ (awaited (requests_from r.service (Some q) (place + 1) r.round.cut left)) (record { replica = place; from_one = l; slot = refl; target = refl; asked = e }) more)
+        (λ f. All-cons (RoundOut r) _ (awaited (requests_from r.service (Some q) (place + 1) r.round.cut left)) (record { replica = place; from_one = l; within = omega (arith, k); slot = refl; target = refl; asked = e }) more)
 
 pub leaving_outs : (c : Config) (at : Reading) (s : State) (o : ℕ) (w : Owner) (outs : List Out) → Leaving c at s o w outs → All (SessionOut w.session) outs
 leaving_outs c at s o _ _ (waits id time rest l) = All-nil (SessionOut _)

@@ -145,16 +145,16 @@ pub record SessionKeeps (c : Config) (P : State → Type 0) : Type 0 where
   pub again : (s : State) (o exchange slot : ℕ) (target : Target) (r : Request) → IsAgain s o exchange slot target r → P s → P (sends_one s o (record { slot = Some slot; target = target; request = r }))
 
 -- sessions after a change of one owner, and after a new owner
-set_same : (s : State) (o : ℕ) (w : Owner) (i : ℕ) → w.session ≡ session_at s o → (get_or (set s.owners o w) i no_owner).session ≡ session_at s i
+pub set_same : (s : State) (o : ℕ) (w : Owner) (i : ℕ) → w.session ≡ session_at s o → (get_or (set s.owners o w) i no_owner).session ≡ session_at s i
 set_same s o w i e = grind (arith, looks, e)
 
-grow_same : (s : State) (w : Owner) (i : ℕ) → w.session ≡ session.Idle → (get_or (s.owners ++ w ∷ []) i no_owner).session ≡ session_at s i
+pub grow_same : (s : State) (w : Owner) (i : ℕ) → w.session ≡ session.Idle → (get_or (s.owners ++ w ∷ []) i no_owner).session ≡ session_at s i
 grow_same s w i e = let p = get_or_past s.owners i no_owner in grind (arith, looks, e, p)
 
-set_turned : (s : State) (o : ℕ) (w : Owner) (x : Session) → w.session ≡ x → ((get_or (set s.owners o w) o no_owner).session ≡ x) ⊎ ((get_or (set s.owners o w) o no_owner).session ≡ session_at s o)
+pub set_turned : (s : State) (o : ℕ) (w : Owner) (x : Session) → w.session ≡ x → ((get_or (set s.owners o w) o no_owner).session ≡ x) ⊎ ((get_or (set s.owners o w) o no_owner).session ≡ session_at s o)
 set_turned s o w x e = grind (arith, looks, e)
 
-set_others : (s : State) (o : ℕ) (w : Owner) (i : ℕ) → (i ≡ o → ⊥) → (get_or (set s.owners o w) i no_owner).session ≡ session_at s i
+pub set_others : (s : State) (o : ℕ) (w : Owner) (i : ℕ) → (i ≡ o → ⊥) → (get_or (set s.owners o w) i no_owner).session ≡ session_at s i
 set_others s o w i n = grind (arith, looks, n)
 
 abbrev rest : {s : State} {stages : List Stage} {pipes : List Pipe} {owners : List Owner} {planned : List ℕ} {history : List Entry} → SameStores s (record s { stages = stages; pipes = pipes; owners = owners; planned = planned; history = history })

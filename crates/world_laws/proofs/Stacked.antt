@@ -102,7 +102,8 @@ use Rattle.rss_machine.specs.State.{no_currents, opening_owner}
 use Rattle.rss_machine.specs.declared.state.Life.TheVariants as life
 use Rattle.rss_machine.specs.declared.state.OwnerFate.TheVariants.{Ended, CutOff}
 use Rattle.rss_machine.specs.declared.turn.Enabling.TheVariants.{Never}
-use Rattle.world_laws.proofs.Contexts.{AllDeps, StageHolds, CopyHolds, ChunkHolds, PipeHolds, mark_deps, joined_hold, fenced_hold, stage_holds, stages_hold, copy_holds, pipe_holds, exit_holds, put_pipe, taken_pipe}
+use Rattle.world_laws.specs.Contexts.{AllDeps, StageHolds, CopyHolds, ChunkHolds, PipeHolds, mark_deps}
+use Rattle.world_laws.proofs.Contexts.{joined_hold, fenced_hold, stage_holds, stages_hold, copy_holds, pipe_holds, exit_holds, put_pipe, taken_pipe}
 use Rattle.world_laws.proofs.Doings.{Changed, Heard, fence_ended, turned, launched, listened, heard_to, reached_to, fix_session, Beginning, calls, fences, Resting, plans, past, fixed, cleared, Working, owes_nothing, is_past, enters_own, Leaving, waits, fixes_work, fixes_own, asks_register, stamps_register, begins_snapshot, begins_txn, fence_done, stub_done, ShardTurning, txn_heard, txn_woken, txn_passed, snap_heard, snap_woken, Doing, listens_one, fix_hears, fix_reached, register_hears, register_stores, register_reached, read_ends, write_ends, txn_ends, snap_ends, counts_one, cuts_one, is_closed, forgets_all, turns, stub_asks}
 use Rattle.world_laws.proofs.Looks.{none_is_not, some_is}
 use Rattle.world_laws.proofs.SessionWalk.{session_at, IsLost, IsAgain}
@@ -189,3 +190,39 @@ sent_before s o exchange slot target r h d =
       target_of = subst (λ (n : ℕ). (message_at s.net n).envelope.target ≡ target) l.of e;
       asked = d.asked;
     }
+
+-- what is known may be more than what is needed
+pub under_more : (c : Config) (at : Reading) (S S' : State → Type 0) (T T' : State → ℕ → Type 0) (P : State → Type 0) (R : State → ℕ → Type 0) → ((s : State) → S' s → S s) → ((s : State) (o : ℕ) → T' s o → T s o) → OwnerKeepsUnder c at S T P R → OwnerKeepsUnder c at S' T' P R
+under_more c at S S' T T' P R f g b = record {
+  fates = λ s m x h. b.fates s m x (f s h);
+  shards = λ s m shard r d h. b.shards s m shard r d (f s h);
+  replicas = λ s m service replica r d h. b.replicas s m service replica r d (f s h);
+  again = λ s o exchange slot target r d h. b.again s o exchange slot target r d (f s h);
+  stages = λ s t d h. b.stages s t d (f s h);
+  dies = λ s t n u d h. b.dies s t n u d (f s h);
+  begins = λ s t w y d h. b.begins s t w y d (f s h);
+  rests = λ s t o w i y d h. b.rests s t o w i y d (f s h);
+  settles = λ s o slot x shards outcome i e d h. b.settles s o slot x shards outcome i e d (f s h);
+  settled = λ s o h. b.settled s o (g s o h);
+  works = λ s t o w i y d h. b.works s t o w i y d (g s o h);
+  leaves = λ s t o w outs i y d h. b.leaves s t o w outs i y d (g s o h);
+  does = λ s t o w outs new y d h. b.does s t o w outs new y d (f s h);
+}
+
+-- two that are kept by themselves
+pub side_by_side : (c : Config) (at : Reading) (S : State → Type 0) (T : State → ℕ → Type 0) (P : State → Type 0) (R : State → ℕ → Type 0) → OwnerKeeps c at P R → OwnerKeepsUnder c at S T P R
+side_by_side c at S T P R b = record {
+  fates = λ s m x h. b.fates s m x;
+  shards = λ s m shard r d h. b.shards s m shard r d;
+  replicas = λ s m service replica r d h. b.replicas s m service replica r d;
+  again = λ s o exchange slot target r d h. b.again s o exchange slot target r d;
+  stages = λ s t d h. b.stages s t d;
+  dies = λ s t n u d h. b.dies s t n u d;
+  begins = λ s t w y d h. b.begins s t w y d;
+  rests = λ s t o w i y d h. b.rests s t o w i y d;
+  settles = λ s o slot x shards outcome i e d h. b.settles s o slot x shards outcome i e d;
+  settled = λ s o h. b.settled s o;
+  works = λ s t o w i y d h. b.works s t o w i y d;
+  leaves = λ s t o w outs i y d h. b.leaves s t o w outs i y d;
+  does = λ s t o w outs new y d h. b.does s t o w outs new y d;
+}

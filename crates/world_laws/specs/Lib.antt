@@ -4,4 +4,5 @@ pub mod Proper
 pub mod Own
 pub mod Ascending
 pub mod Registers
+pub mod Contexts
 pub mod Laws
