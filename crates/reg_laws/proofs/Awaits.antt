@@ -91,14 +91,14 @@ use Rattle.world_laws.proofs.Stacked.{SentBefore}
 use Rattle.reg_laws.specs.Awaited.{IsAsked, IsAwaited, CurrentsAwaited, IsOwnReply, IsRound, RepliesAreOwn}
 
 -- what is true of each owner by its number stays true where one changes, and where one begins
-set_each : (Q : ℕ → Owner → Type 0) (xs : List Owner) (o : ℕ) (w : Owner) → Q o w → ((i : ℕ) → Q i (get_or xs i no_owner)) → (i : ℕ) → Q i (get_or (set xs o w) i no_owner)
+pub set_each : (Q : ℕ → Owner → Type 0) (xs : List Owner) (o : ℕ) (w : Owner) → Q o w → ((i : ℕ) → Q i (get_or xs i no_owner)) → (i : ℕ) → Q i (get_or (set xs o w) i no_owner)
 set_each Q xs o w q h i = by_place (get_or_set xs o w i no_owner)
   where
     by_place : ((get_or (set xs o w) i no_owner ≡ w) × (i ≡ o) × (o < length xs)) ⊎ ((get_or (set xs o w) i no_owner ≡ get_or xs i no_owner) × ((i ≡ o → ⊥) ⊎ (length xs ≤ i))) → Q i (get_or (set xs o w) i no_owner)
     by_place (inl e) = subst (λ (j : ℕ). Q j (get_or (set xs o w) i no_owner)) (sym e.1) (subst (Q o) (sym e.0) q)
     by_place (inr e) = subst (Q i) (sym e.0) (h i)
 
-grow_each : (Q : ℕ → Owner → Type 0) (xs : List Owner) (w : Owner) → Q (length xs) w → ((i : ℕ) → Q i (get_or xs i no_owner)) → (i : ℕ) → Q i (get_or (xs ++ w ∷ []) i no_owner)
+pub grow_each : (Q : ℕ → Owner → Type 0) (xs : List Owner) (w : Owner) → Q (length xs) w → ((i : ℕ) → Q i (get_or xs i no_owner)) → (i : ℕ) → Q i (get_or (xs ++ w ∷ []) i no_owner)
 grow_each Q xs w q h i = by_place (get_or_append xs (w ∷ []) i no_owner)
   where
     by_place : ((get_or (xs ++ w ∷ []) i no_owner ≡ get_or xs i no_owner) × (i < length xs)) ⊎ ((get_or (xs ++ w ∷ []) i no_owner ≡ get_or (w ∷ []) (i - length xs) no_owner) × (length xs ≤ i)) → Q i (get_or (xs ++ w ∷ []) i no_owner)
@@ -138,12 +138,12 @@ awaited_stays net net' o (session.Snapshot t) slot m f h = h
 awaited_stays net net' o (session.Settling attempt shards) slot m f h = h
 
 -- a round of dependencies stores dependencies
-abbrev IsFix : RegWork → Type 0
+abbrev pub IsFix : RegWork → Type 0
 IsFix (work.Fix deps) = ⊤
 IsFix (work.Read key) = ⊥
 IsFix (work.Write key value) = ⊥
 
-abbrev FixesOnly : Session → Type 0
+abbrev pub FixesOnly : Session → Type 0
 FixesOnly (session.Fixing r) = IsFix r.work
 FixesOnly (session.Register r) = ⊤
 FixesOnly session.Idle = ⊤
@@ -152,22 +152,22 @@ FixesOnly (session.Snapshot t) = ⊤
 FixesOnly (session.Settling attempt shards) = ⊤
 
 -- an owner's current exchanges are awaited, and it has nothing under way where it waits or has not started
-record OwnAwaited (net : List Message) (o : ℕ) (w : Owner) : Type 0 where
-  awaited : (slot m : ℕ) → get_or w.currents slot None ≡ Some m → IsAwaited net o w.session slot m
-  waiting : (time : ℕ) → w.works.wait ≡ Some time → w.session ≡ session.Idle
-  unstarted : w.started ≡ false → (w.session ≡ session.Idle) × (w.works.wait ≡ None)
-  fixes : FixesOnly w.session
+pub record OwnAwaited (net : List Message) (o : ℕ) (w : Owner) : Type 0 where
+  pub awaited : (slot m : ℕ) → get_or w.currents slot None ≡ Some m → IsAwaited net o w.session slot m
+  pub waiting : (time : ℕ) → w.works.wait ≡ Some time → w.session ≡ session.Idle
+  pub unstarted : w.started ≡ false → (w.session ≡ session.Idle) × (w.works.wait ≡ None)
+  pub fixes : FixesOnly w.session
 
-record Awaiting (s : State) : Type 0 where
-  each : (o : ℕ) → OwnAwaited s.net o (owner_at s o)
+pub record Awaiting (s : State) : Type 0 where
+  pub each : (o : ℕ) → OwnAwaited s.net o (owner_at s o)
 
 -- an owner between its works has nothing under way
-record IsFree (w : Owner) : Type 0 where
-  idle : w.session ≡ session.Idle
-  begun : w.started ≡ true
-  awake : w.works.wait ≡ None
+pub record IsFree (w : Owner) : Type 0 where
+  pub idle : w.session ≡ session.Idle
+  pub begun : w.started ≡ true
+  pub awake : w.works.wait ≡ None
 
-abbrev AtRest : State → ℕ → Type 0
+abbrev pub AtRest : State → ℕ → Type 0
 AtRest s o = Awaiting s × IsFree (owner_at s o)
 
 own_stays : (net net' : List Message) (o : ℕ) (w : Owner) → ((r : RegSession) (slot m : ℕ) → IsAsked net o r slot m → IsAsked net' o r slot m) → OwnAwaited net o w → OwnAwaited net' o w
@@ -202,7 +202,7 @@ idle_current : (net : List Message) (o : ℕ) (w : Owner) (slot m : ℕ) → Own
 idle_current net o w slot m h i e = subst (λ (x : Session). IsAwaited net o x slot m) i (h.awaited slot m e)
 
 -- the requests that an owner sends are what it awaits
-abbrev OutFits : Session → Out → Type 0
+abbrev pub OutFits : Session → Out → Type 0
 OutFits session.Idle out = ⊥
 OutFits (session.Fixing r) out = RoundOut r out
 OutFits (session.Register r) out = RoundOut r out
@@ -244,7 +244,7 @@ current_more cs (Some k) m slot j e = by_place (get_or_set cs k (Some m) slot No
     by_place (inr f) = inr (sym f.0 ∙ e)
 
 -- a slot that was heard has no current exchange, and the others keep theirs
-current_less : (cs : List (Option ℕ)) (k slot j : ℕ) → get_or (set cs k None) slot None ≡ Some j → (get_or cs slot None ≡ Some j) × (slot ≡ k → ⊥)
+pub current_less : (cs : List (Option ℕ)) (k slot j : ℕ) → get_or (set cs k None) slot None ≡ Some j → (get_or cs slot None ≡ Some j) × (slot ≡ k → ⊥)
 current_less cs k slot j e = by_place (get_or_set cs k None slot None)
   where
     by_place : ((get_or (set cs k None) slot None ≡ None) × (slot ≡ k) × (k < length cs)) ⊎ ((get_or (set cs k None) slot None ≡ get_or cs slot None) × ((slot ≡ k → ⊥) ⊎ (length cs ≤ slot))) → (get_or cs slot None ≡ Some j) × (slot ≡ k → ⊥)
@@ -330,7 +330,7 @@ awaits_sends o x outs s a e h =
     (sends_each (λ t. Awaiting t × (session_at t o ≡ x)) (OutFits x) o (λ t out d p. (awaits_one o t out (subst (λ (y : Session). OutFits y out) (sym p.1) d) p.0, sends_same t o out o ∙ p.1)) outs s a (h, e)).0
 
 -- an owner in the place of what it was, or behind the others
-awaiting_set : (s t : State) (o : ℕ) (w : Owner) → t.net ≡ s.net → t.owners ≡ set s.owners o w → OwnAwaited s.net o w → Awaiting s → Awaiting t
+pub awaiting_set : (s t : State) (o : ℕ) (w : Owner) → t.net ≡ s.net → t.owners ≡ set s.owners o w → OwnAwaited s.net o w → Awaiting s → Awaiting t
 awaiting_set s t o w n d q h = record {
   each = subst (λ (net : List Message). (i : ℕ) → OwnAwaited net i (owner_at t i)) (sym n)
       (subst (λ (owners : List Owner). (i : ℕ) → OwnAwaited s.net i (get_or owners i no_owner)) (sym d) (set_each (OwnAwaited s.net) s.owners o w q h.each));
@@ -342,10 +342,10 @@ awaiting_grow s t w n d q h = record {
       (subst (λ (owners : List Owner). (i : ℕ) → OwnAwaited s.net i (get_or owners i no_owner)) (sym d) (grow_each (OwnAwaited s.net) s.owners w q h.each));
 }
 
-set_there : (s t : State) (o : ℕ) (w : Owner) → o < length s.owners → t.owners ≡ set s.owners o w → owner_at t o ≡ w
+pub set_there : (s t : State) (o : ℕ) (w : Owner) → o < length s.owners → t.owners ≡ set s.owners o w → owner_at t o ≡ w
 set_there s t o w i d = ap (λ (owners : List Owner). get_or owners o no_owner) d ∙ get_or-set_same s.owners o w no_owner i
 
-grown_there : (s t : State) (w : Owner) → t.owners ≡ s.owners ++ w ∷ [] → owner_at t (length s.owners) ≡ w
+pub grown_there : (s t : State) (w : Owner) → t.owners ≡ s.owners ++ w ∷ [] → owner_at t (length s.owners) ≡ w
 grown_there s t w d = ap (λ (owners : List Owner). get_or owners (length s.owners) no_owner) d ∙ at_end s.owners w
   where
     at_end : (xs : List Owner) (w : Owner) → get_or (xs ++ w ∷ []) (length xs) no_owner ≡ w
@@ -456,7 +456,7 @@ leaving_awaited c at net s o _ _ (stub_done u l e) h f = record {
   fixes = h.fixes;
 }
 
-leaving_fits : (c : Config) (at : Reading) (s : State) (o : ℕ) (w : Owner) (outs : List Out) → Leaving c at s o w outs → All (OutFits w.session) outs
+pub leaving_fits : (c : Config) (at : Reading) (s : State) (o : ℕ) (w : Owner) (outs : List Out) → Leaving c at s o w outs → All (OutFits w.session) outs
 leaving_fits c at s o _ _ (waits id time rest l) = All-nil (OutFits (session_at s o))
 leaving_fits c at s o _ _ (fixes_work id rest l) = round_outs (fix_session c s o id)
 leaving_fits c at s o _ _ (fixes_own x dep deps l e d) = round_outs _
@@ -468,12 +468,12 @@ leaving_fits c at s o _ _ (fence_done l e) = All-nil (OutFits (session_at s o))
 leaving_fits c at s o _ _ (stub_done u l e) = All-nil (OutFits (session_at s o))
 
 -- two rounds that ask the same
-record SameRound (f g : RegSession) : Type 0 where
-  call : g.call ≡ f.call
-  work : g.work ≡ f.work
-  service : g.service ≡ f.service
-  phase : g.phase ≡ f.phase
-  replicas : g.round.replicas ≡ f.round.replicas
+pub record SameRound (f g : RegSession) : Type 0 where
+  pub call : g.call ≡ f.call
+  pub work : g.work ≡ f.work
+  pub service : g.service ≡ f.service
+  pub phase : g.phase ≡ f.phase
+  pub replicas : g.round.replicas ≡ f.round.replicas
 
 asked_same : (net : List Message) (o : ℕ) (f g : RegSession) (slot m : ℕ) → SameRound f g → IsAsked net o f slot m → IsAsked net o g slot m
 asked_same net o f g slot m e h = record {
@@ -491,7 +491,7 @@ pub hears_replicas : (round : Round) (from : ℕ) (cell : RegReply) → (hears r
 hears_replicas round from cell = cond_both (was_heard round from) round _ (λ (x : Round). x.replicas ≡ round.replicas) (λ t. refl) (λ f. refl)
 
 -- a round that goes on asks the same
-after_same : (f : RegSession) (from : ℕ) (r : Reply) → phase_end (session_after f from r).phase ≡ None → opens_round f.phase (session_after f from r).phase ≡ false → SameRound f (session_after f from r)
+pub after_same : (f : RegSession) (from : ℕ) (r : Reply) → phase_end (session_after f from r).phase ≡ None → opens_round f.phase (session_after f from r).phase ≡ false → SameRound f (session_after f from r)
 after_same f from r = by_reach (is_reached (hears f.round from (reply_cell r))) f.phase refl
   where
     h : RegSession
@@ -541,7 +541,7 @@ without_fixes (session.Snapshot t) id replica h = tt
 without_fixes (session.Settling attempt shards) id replica h = tt
 
 -- a heard slot was awaited
-heard_awaited : (s : State) (o slot : ℕ) (r : Reply) (d : Heard s o slot r) → OwnAwaited s.net o (owner_at s o) → IsAwaited s.net o (session_at s o) slot (message_at s.net d.number).envelope.exchange
+pub heard_awaited : (s : State) (o slot : ℕ) (r : Reply) (d : Heard s o slot r) → OwnAwaited s.net o (owner_at s o) → IsAwaited s.net o (session_at s o) slot (message_at s.net d.number).envelope.exchange
 heard_awaited s o slot r d h = h.awaited slot _ (slot_current (owner_at s o).currents (message_at s.net d.number).envelope.exchange slot d.current)
 
 -- an owner that turns from something under way to another
@@ -609,7 +609,7 @@ turning_fits s o _ _ (txn_passed t e) = λ k x i. tt
 turning_fits s o _ _ (snap_heard t l r e) = λ k x i. tt
 turning_fits s o _ _ (snap_woken t l e) = λ k x i. tt
 
-doing_fits : (s : State) (o : ℕ) (w : Owner) (outs : List Out) (new : List Dep) → Doing s o w outs new → All (OutFits w.session) outs
+pub doing_fits : (s : State) (o : ℕ) (w : Owner) (outs : List Out) (new : List Dep) → Doing s o w outs new → All (OutFits w.session) outs
 doing_fits s o _ _ _ (listens_one slot r d) = All-nil (OutFits (session_at s o))
 doing_fits s o _ _ _ (fix_hears f slot r x d e) = All-nil (RoundOut (session_after f (slot_replica slot) r))
 doing_fits s o _ _ _ (fix_reached f slot r g x d e) = All-nil (RoundOut (session_after f (slot_replica slot) r))
@@ -736,7 +736,7 @@ again_awaited s o exchange slot target r d g h = record { each = set_each (OwnAw
         by_current k m (inr e) = before.awaited k m e
 
 -- an owner that is not there sends nothing
-nobody_sends : (s : State) (o : ℕ) (w : Owner) (outs : List Out) (new : List Dep) → Doing s o w outs new → owner_at s o ≡ no_owner → outs ≡ []
+pub nobody_sends : (s : State) (o : ℕ) (w : Owner) (outs : List Out) (new : List Dep) → Doing s o w outs new → owner_at s o ≡ no_owner → outs ≡ []
 nobody_sends s o _ _ _ (listens_one slot r d) q = refl
 nobody_sends s o _ _ _ (fix_hears f slot r x d e) q = refl
 nobody_sends s o _ _ _ (fix_reached f slot r g x d e) q = refl
@@ -761,7 +761,7 @@ nobody_sends s o _ _ _ (turns x outs y) q = turning_none x outs y
     turning_none _ _ (snap_woken t l e) = absurd (true≢false (sym (ap is_busy e) ∙ ap (λ (v : Owner). is_busy v.session) q))
 nobody_sends s o _ _ _ (stub_asks attempt shards e b) q = absurd (true≢false (sym (ap (λ (v : Owner). v.started) q) ∙ b))
 
-awaited_under : (c : Config) (at : Reading) → OwnerKeepsUnder c at Sound (λ s o. Sound s) Awaiting AtRest
+pub awaited_under : (c : Config) (at : Reading) → OwnerKeepsUnder c at Sound (λ s o. Sound s) Awaiting AtRest
 awaited_under c at = record {
   fates = λ s m f g h. record { each = λ o. own_stays s.net (meets s.net m f) o (owner_at s o) (meets_asked s.net m f o) (h.each o) };
   shards = λ s m shard r d g h. record { each = awaiting_more s _ h };
@@ -807,7 +807,7 @@ awaited_step c s step r h =
     owner_walk c step.at (λ t. Sound t × Awaiting t) (λ t o. Sound t × AtRest t o) (stacked c step.at Sound (λ t o. Sound t) Awaiting AtRest (store_owner c step.at Sound sound_keeps) (awaited_under c step.at))
     (ticks s step.at) step.kind (passes c s step r).kind (record { first = h.0.first; sound = h.0.sound }, record { each = h.1.each })
 
-awaited_start : (c : Config) → Awaiting (start c)
+pub awaited_start : (c : Config) → Awaiting (start c)
 awaited_start c = record { each = each }
   where
     nobody : (net : List Message) (o : ℕ) → OwnAwaited net o no_owner

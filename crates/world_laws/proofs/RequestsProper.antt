@@ -54,10 +54,10 @@ fine_meets : (net : List Message) (m : ℕ) (f : Fate) → ((k : ℕ) → is_fin
 fine_meets net m f h k = let a = meets_envelope net m f k in let b = meets_body net m f k in rw (a, b) (h k)
 
 -- in a state the net is sound, what owners have under way is proper, and each message is
-record Fine (s : State) : Type 0 where
-  sound : Sound s
-  sessions : (o : ℕ) → session_proper (session_at s o) ≡ true
-  messages : AreProper s
+pub record Fine (s : State) : Type 0 where
+  pub sound : Sound s
+  pub sessions : (o : ℕ) → session_proper (session_at s o) ≡ true
+  pub messages : AreProper s
 
 pub sends_same : (s : State) (o : ℕ) (out : Out) (i : ℕ) → session_at (sends_one s o out) i ≡ session_at s i
 sends_same s o out i = grind (arith, looks)
@@ -104,7 +104,7 @@ again_fine s o exchange slot target r d h =
     let p : is_proper_body (message_at s.net exchange).envelope.target (message_at s.net exchange).body ≡ true = h.messages exchange in
     subst (λ (b : Body). is_proper_body target b ≡ true) d.asked (subst (λ (g : Target). is_proper_body g (message_at s.net exchange).body ≡ true) f p)
 
-fine_keeps : (c : Config) → SessionKeeps c Fine
+pub fine_keeps : (c : Config) → SessionKeeps c Fine
 fine_keeps c = record {
   fates = λ s m f h. record { sound = sound_keeps.fates s m f h.sound; sessions = h.sessions; messages = fine_meets s.net m f h.messages };
   shards = λ s m shard latest r d h. record { sound = sound_keeps.shards s m shard latest r d h.sound; sessions = h.sessions; messages = fine_more s.net _ refl h.messages };
@@ -131,10 +131,8 @@ fine_from : (c : Config) (steps : List Step) (u s : State) → run_from c u step
 fine_from c [] u s e h = subst Fine (run_none c u s e) h
 fine_from c (step ∷ steps) u s e h = let t = run_rest c u step steps s e in fine_from c steps (stepped c u step) s t.1 (fine_step c u step t.0 h)
 
--- every message of a run is proper
-pub proper_run : (c : Config) (steps : List Step) (s : State) → run c steps ≡ Some s → AreProper s
-unfolding run
-proper_run c steps s e = (fine_from c steps (start c) s e (record { sound = sound_start c; sessions = start_idle; messages = start_fine })).messages
+pub fine_start : (c : Config) → Fine (start c)
+fine_start c = record { sound = sound_start c; sessions = start_idle; messages = start_fine }
   where
     start_idle : (o : ℕ) → session_proper (session_at (start c) o) ≡ true
     start_idle zero = refl
@@ -143,3 +141,8 @@ proper_run c steps s e = (fine_from c steps (start c) s e (record { sound = soun
     start_fine : (m : ℕ) → is_fine (message_at (start c).net m)
     start_fine zero = refl
     start_fine (suc m) = refl
+
+-- every message of a run is proper
+pub proper_run : (c : Config) (steps : List Step) (s : State) → run c steps ≡ Some s → AreProper s
+unfolding run
+proper_run c steps s e = (fine_from c steps (start c) s e (fine_start c)).messages

@@ -48,17 +48,17 @@ use Rattle.world_laws.proofs.ShardRequests.{all_outs, lines-fine, snap-lines-fin
 use Rattle.world_laws.proofs.StoreWalk.{SameStores}
 
 -- a session is its owner's, and the stamp that it stores is
-abbrev phase_own : ℕ → RegPhase → Bool
+abbrev pub phase_own : ℕ → RegPhase → Bool
 phase_own o (phase.Storing stamp) = stamp.call == o
 phase_own o phase.Fixing = true
 phase_own o phase.Asking = true
 phase_own o phase.Stamping = true
 phase_own o (phase.Done end) = true
 
-abbrev round_own : ℕ → RegSession → Bool
+abbrev pub round_own : ℕ → RegSession → Bool
 round_own o r = (r.call == o) && phase_own o r.phase
 
-abbrev session_own : ℕ → Session → Bool
+abbrev pub session_own : ℕ → Session → Bool
 session_own o (session.Register r) = round_own o r
 session_own o (session.Fixing r) = round_own o r
 session_own o session.Idle = true
@@ -161,10 +161,10 @@ owned_meets : (net : List Message) (m : ℕ) (f : Fate) → ((k : ℕ) → is_ow
 owned_meets net m f h k = let a = meets_envelope net m f k in let b = meets_body net m f k in rw (a, b) (h k)
 
 -- in a state the net is sound, and all is its owner's
-record Owned (s : State) : Type 0 where
-  sound : Sound s
-  sessions : (o : ℕ) → session_own o (session_at s o) ≡ true
-  messages : AreOwn s
+pub record Owned (s : State) : Type 0 where
+  pub sound : Sound s
+  pub sessions : (o : ℕ) → session_own o (session_at s o) ≡ true
+  pub messages : AreOwn s
 
 owned_sends_one : (s : State) (o : ℕ) (out : Out) → is_own o out.target out.request ≡ true → Owned s → Owned (sends_one s o out)
 owned_sends_one s o out e h = record {
@@ -208,7 +208,7 @@ again_owned s o exchange slot target r d h =
     (subst (λ (g : Target). is_own_body o g (message_at s.net exchange).body ≡ true) f
     (subst (λ (j : ℕ). is_own_body j (message_at s.net exchange).envelope.target (message_at s.net exchange).body ≡ true) b p))
 
-owned_keeps : (c : Config) → SessionKeeps c Owned
+pub owned_keeps : (c : Config) → SessionKeeps c Owned
 owned_keeps c = record {
   fates = λ s m f h. record { sound = sound_keeps.fates s m f h.sound; sessions = h.sessions; messages = owned_meets s.net m f h.messages };
   shards = λ s m shard latest r d h. record { sound = sound_keeps.shards s m shard latest r d h.sound; sessions = h.sessions; messages = owned_more s.net _ refl h.messages };
@@ -235,10 +235,8 @@ owned_from : (c : Config) (steps : List Step) (u s : State) → run_from c u ste
 owned_from c [] u s e h = subst Owned (run_none c u s e) h
 owned_from c (step ∷ steps) u s e h = let t = run_rest c u step steps s e in owned_from c steps (stepped c u step) s t.1 (owned_step c u step t.0 h)
 
--- every store of a run is of its own call
-pub own_run : (c : Config) (steps : List Step) (s : State) → run c steps ≡ Some s → AreOwn s
-unfolding run
-own_run c steps s e = (owned_from c steps (start c) s e (record { sound = sound_start c; sessions = start_idle; messages = start_owned })).messages
+pub owned_start : (c : Config) → Owned (start c)
+owned_start c = record { sound = sound_start c; sessions = start_idle; messages = start_owned }
   where
     start_idle : (o : ℕ) → session_own o (session_at (start c) o) ≡ true
     start_idle zero = refl
@@ -247,3 +245,8 @@ own_run c steps s e = (owned_from c steps (start c) s e (record { sound = sound_
     start_owned : (m : ℕ) → is_owned (message_at (start c).net m)
     start_owned zero = refl
     start_owned (suc m) = refl
+
+-- every store of a run is of its own call
+pub own_run : (c : Config) (steps : List Step) (s : State) → run c steps ≡ Some s → AreOwn s
+unfolding run
+own_run c steps s e = (owned_from c steps (start c) s e (owned_start c)).messages
