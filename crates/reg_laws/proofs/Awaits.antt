@@ -735,6 +735,25 @@ again_awaited s o exchange slot target r d g h = record { each = set_each (OwnAw
             (new_one (session_at s o) ((h.each o).awaited slot exchange (slot_current (owner_at s o).currents exchange slot d.current))))
         by_current k m (inr e) = before.awaited k m e
 
+-- rounds of dependencies stay such
+pub leaving_fixes : (c : Config) (at : Reading) (s : State) (o : ℕ) (w : Owner) (outs : List Out) → Leaving c at s o w outs → FixesOnly (session_at s o) → FixesOnly w.session
+leaving_fixes c at s o _ _ (waits id time rest l) h = h
+leaving_fixes c at s o _ _ (fixes_work id rest l) h = tt
+leaving_fixes c at s o _ _ (fixes_own x dep deps l e d) h = tt
+leaving_fixes c at s o _ _ (asks_register key l e d) h = tt
+leaving_fixes c at s o _ _ (stamps_register key value l e d) h = tt
+leaving_fixes c at s o _ _ (begins_snapshot keys t l e d) h = tt
+leaving_fixes c at s o _ _ (begins_txn reads guard writes t l e d) h = tt
+leaving_fixes c at s o _ _ (fence_done l e) h = h
+leaving_fixes c at s o _ _ (stub_done u l e) h = h
+
+pub doing_fixes : (s : State) (o : ℕ) (w : Owner) (outs : List Out) (new : List Dep) → Doing s o w outs new → OwnAwaited s.net o (owner_at s o) → FixesOnly w.session
+doing_fixes s o w outs new b h = (doing_awaited s o w outs new b h).fixes
+
+pub beginning_idle : (c : Config) (s : State) (w : Owner) → Beginning c s w → w.session ≡ session.Idle
+beginning_idle c s _ (calls n x e) = refl
+beginning_idle c s _ (fences n) = refl
+
 -- an owner that is not there sends nothing
 pub nobody_sends : (s : State) (o : ℕ) (w : Owner) (outs : List Out) (new : List Dep) → Doing s o w outs new → owner_at s o ≡ no_owner → outs ≡ []
 nobody_sends s o _ _ _ (listens_one slot r d) q = refl

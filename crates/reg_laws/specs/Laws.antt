@@ -4,6 +4,8 @@ use Rattle.pipeline_lang.specs.declared.config.Config.{Config}
 use Rattle.rss_machine.specs.Run.{run}
 use Rattle.rss_machine.specs.State.{State}
 use Rattle.rss_machine.specs.declared.step.Step.{Step}
+use Rattle.world_laws.specs.Registers.{NamesRegisters}
+use Rattle.reg_laws.specs.Stored.{StampsName}
 use Rattle.reg_laws.specs.Awaited.{CurrentsAwaited, RepliesAreOwn}
 
 -- each current exchange is awaited
@@ -13,3 +15,7 @@ CurrentsAreAwaited = (c : Config) (steps : List Step) (s : State) → run c step
 -- a reply that is heard in a round answers the round's own request
 abbrev pub HeardRepliesAreOwn : Type 0
 HeardRepliesAreOwn = (c : Config) (steps : List Step) (s : State) → run c steps ≡ Some s → RepliesAreOwn s
+
+-- one stamp is of one register, one value and one writer
+abbrev pub StampsAreUnique : Type 0
+StampsAreUnique = (c : Config) (steps : List Step) (s : State) → NamesRegisters c → run c steps ≡ Some s → StampsName s.net

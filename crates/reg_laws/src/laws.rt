@@ -1,6 +1,6 @@
 //! The laws of rounds. They hold no code: each is the contract of a function that does nothing.
 
-ghost use Rattle.reg_laws.specs.Laws.{CurrentsAreAwaited, HeardRepliesAreOwn};
+ghost use Rattle.reg_laws.specs.Laws.{CurrentsAreAwaited, HeardRepliesAreOwn, StampsAreUnique};
 
 /// In every run each current exchange of an owner is one that it awaits: with a round under way it is
 /// the owner's request of the round's phase to the replica of its slot, and an owner with nothing
@@ -15,4 +15,10 @@ pub fn currents_are_awaited()
 #[tactic(auto, using(crate::proofs::Awaits::own_run))]
 pub fn heard_replies_are_own()
     ensures { HeardRepliesAreOwn }
+{}
+
+/// In every run of a file whose scripts name its registers, one stamp is of one register, one value and
+/// one writer: two stores that replicas were sent with the same stamp are of the same.
+pub fn stamps_are_unique()
+    ensures { StampsAreUnique }
 {}

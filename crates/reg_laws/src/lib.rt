@@ -3,4 +3,4 @@
 
 mod laws;
 
-pub use laws::{currents_are_awaited, heard_replies_are_own};
+pub use laws::{currents_are_awaited, heard_replies_are_own, stamps_are_unique};

@@ -81,16 +81,16 @@ abbrev same_again : {s : State} {owners : List Owner} {planned : List ℕ} → S
 same_again = record { steps = refl; moment = refl; moments = refl; net = refl; shards = refl; replicas = refl; marks = refl }
 
 -- the same owners, a new one with nothing under way, and one in the place of what it was
-same_sessions : (s t : State) → t.owners ≡ s.owners → SameSessions s t
+pub same_sessions : (s t : State) → t.owners ≡ s.owners → SameSessions s t
 same_sessions s t d = record { same = λ i. ap (λ (owners : List Owner). (get_or owners i no_owner).session) d }
 
-grown_sessions : (s t : State) (w : Owner) → w.session ≡ session.Idle → t.owners ≡ s.owners ++ w ∷ [] → SameSessions s t
+pub grown_sessions : (s t : State) (w : Owner) → w.session ≡ session.Idle → t.owners ≡ s.owners ++ w ∷ [] → SameSessions s t
 grown_sessions s t w e d = record { same = λ i. ap (λ (owners : List Owner). (get_or owners i no_owner).session) d ∙ grow_same s w i e }
 
-kept_sessions : (s t : State) (o : ℕ) (w : Owner) → w.session ≡ session_at s o → t.owners ≡ set s.owners o w → SameSessions s t
+pub kept_sessions : (s t : State) (o : ℕ) (w : Owner) → w.session ≡ session_at s o → t.owners ≡ set s.owners o w → SameSessions s t
 kept_sessions s t o w e d = record { same = λ i. ap (λ (owners : List Owner). (get_or owners i no_owner).session) d ∙ set_same s o w i e }
 
-turned_sessions : (s t : State) (o : ℕ) (w : Owner) → t.owners ≡ set s.owners o w → TurnsTo s t o w.session
+pub turned_sessions : (s t : State) (o : ℕ) (w : Owner) → t.owners ≡ set s.owners o w → TurnsTo s t o w.session
 turned_sessions s t o w d = record {
   turned = by_turn (set_turned s o w w.session refl);
   others = λ i n. ap (λ (owners : List Owner). (get_or owners i no_owner).session) d ∙ set_others s o w i n;
