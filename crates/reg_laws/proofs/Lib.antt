@@ -1,3 +1,5 @@
 pub mod Awaits
 pub mod Base
 pub mod Stores
+pub mod Valid
+pub mod Hearing

@@ -1,0 +1,338 @@
+-- What rounds hear, leave and go on with was stored.
+use Rattle.std.proofs.Common.{◌≡◌, ℕ, zero, suc, ◌<◌, ◌≤◌, Bool, true, false, List, [], ◌∷◌, ◌++◌, All, map, length, get_or, Option, Some, None, refl, ap, sym, ◌∙◌, subst, arith}
+use Rattle.std.specs.Prelude.{⊤}
+use Rattle.std.proofs.Math.ListN.{set}
+use Rattle.std.proofs.lemmas.Bool.{cond_both}
+use Rattle.std.proofs.lemmas.List.Elements.{All-cons, All-nil, All-head, All-set, All-push, All-map, All-weaker}
+use Rattle.truetime.specs.Reading.{Reading}
+use Rattle.rss_names.specs.declared.attempt.Attempt.{Attempt}
+use Rattle.rss_names.specs.declared.service.Key.{Key}
+use Rattle.rss_names.specs.declared.service.ServiceId.{ServiceId}
+use Rattle.rss_names.specs.declared.service.Target.{Target}
+use Rattle.rss_names.specs.declared.service.Target.TheVariants.{Shard, Replica}
+use Rattle.rss_names.specs.Services.{same_service}
+use Rattle.causal_context.specs.declared.dep.Dep.{Dep}
+use Rattle.causal_context.specs.Deps.{deps_of, given_dep}
+use Rattle.pipeline_lang.specs.declared.config.Config.{Config}
+use Rattle.pipeline_lang.specs.declared.script.Statement.{Statement}
+use Rattle.pipeline_lang.specs.declared.script.Statement.TheVariants as statement
+use Rattle.pipeline_lang.specs.Config.{statement_at}
+use Rattle.rss_model.specs.CallStatement.{op_of_statement}
+use Rattle.rss_model.specs.declared.op.Op.{Op}
+use Rattle.rss_model.specs.declared.op.Op.TheVariants as op
+use Rattle.rss_wire.specs.Messages.{message_at}
+use Rattle.rss_wire.specs.declared.message.Body.TheVariants as body
+use Rattle.rss_wire.specs.declared.message.Message.{Message}
+use Rattle.rss_wire.specs.declared.messages.Outcome.{Outcome}
+use Rattle.rss_wire.specs.declared.messages.RegReply.{RegReply}
+use Rattle.rss_wire.specs.declared.messages.Reply.{Reply}
+use Rattle.rss_wire.specs.declared.messages.Reply.TheVariants as reply
+use Rattle.rss_wire.specs.declared.messages.Request.{Request}
+use Rattle.rss_wire.specs.declared.messages.Request.TheVariants as request
+use Rattle.rss_tables.specs.Lines.{tells_decision}
+use Rattle.rss_tables.specs.Outs.{Out}
+use Rattle.rss_tables.specs.RegisterSession.{RegSession, phase_request, session_after, reached, reply_cell, read_end, read_dep, found_cell}
+use Rattle.rss_tables.specs.Round.{Round, was_heard, hears, is_reached, greatest_heard, is_agreed}
+use Rattle.rss_tables.specs.declared.register_session.RegEnd.{RegEnd}
+use Rattle.rss_tables.specs.declared.register_session.RegEnd.TheVariants as ends
+use Rattle.rss_tables.specs.declared.register_session.RegPhase.{RegPhase}
+use Rattle.rss_tables.specs.declared.register_session.RegPhase.TheVariants as phase
+use Rattle.rss_tables.specs.declared.register_session.RegWork.{RegWork}
+use Rattle.rss_tables.specs.declared.register_session.RegWork.TheVariants as work
+use Rattle.rss_machine.specs.Calls.{session_for}
+use Rattle.rss_machine.specs.Effect.{stepped}
+use Rattle.rss_machine.specs.Moves.{ticks, sends_one, sends, session_without, serves_replica, notes_served, listens, plans_stub}
+use Rattle.rss_machine.specs.Refusal.{refusal}
+use Rattle.rss_machine.specs.Run.{run, run_from}
+use Rattle.rss_machine.specs.Session.{Session}
+use Rattle.rss_machine.specs.State.{State, Owner, start, owner_at, no_owner, stage_at, opening_owner}
+use Rattle.rss_machine.specs.declared.session.OwnerKind.{OwnerKind}
+use Rattle.rss_machine.specs.declared.session.OwnerKind.TheVariants as kind
+use Rattle.rss_machine.specs.declared.session.Session.TheVariants as session
+use Rattle.rss_machine.specs.declared.step.Step.{Step}
+use Rattle.world_laws.proofs.Doings.{Changed, Heard, Beginning, calls, fences, Resting, plans, past, fixed, cleared, Working, owes_nothing, is_past, enters_own, Leaving, waits, fixes_work, fixes_own, asks_register, stamps_register, begins_snapshot, begins_txn, fence_done, stub_done, ShardTurning, txn_heard, txn_woken, txn_passed, snap_heard, snap_woken, Doing, listens_one, fix_hears, fix_reached, register_hears, register_stores, register_reached, read_ends, write_ends, txn_ends, snap_ends, counts_one, cuts_one, is_closed, forgets_all, turns, stub_asks}
+use Rattle.std.proofs.lemmas.Bool.{false≢true}
+use Rattle.world_laws.proofs.Looks.{looks, some_is, none_is_not}
+use Rattle.world_laws.proofs.OwnerWalk.{OwnerKeeps, owner_walk}
+use Rattle.world_laws.proofs.Runs.{passes, run_rest, run_none}
+use Rattle.world_laws.proofs.Sent.{SessionOut, RoundOut, ToShard, to_shard, IsTold, decision_outs, leaving_outs, doing_outs, sends_each, SentAll, sent_meets, sent_asks, sent_answers}
+use Rattle.world_laws.proofs.SessionWalk.{session_at, IsAgain}
+use Rattle.world_laws.proofs.StoreWalk.{SameStores}
+use Rattle.world_laws.proofs.Runs.{run_keeps}
+use Rattle.world_laws.proofs.Replies.{Sound, sound_keeps, sound_start}
+use Rattle.world_laws.proofs.Stacked.{OwnerKeepsUnder, stacked, store_owner, sent_before}
+use Rattle.world_laws.proofs.Sent.{sent_none}
+use Rattle.std.proofs.Common.{◌-◌, ◌⊎◌, inl, inr}
+use Rattle.std.specs.Prelude.{◌==◌, if◌then◌else◌}
+use Rattle.std.proofs.lemmas.Bool.{true≢false, eqb-true}
+use Rattle.std.proofs.lemmas.List.{get_or-set_same}
+use Rattle.carstamps.specs.Stamp.{next_stamp}
+use Rattle.rss_wire.specs.declared.envelope.Envelope.{Envelope}
+use Rattle.rss_wire.specs.declared.message.Fate.{Fate}
+use Rattle.rss_wire.specs.declared.message.Fate.TheVariants.{Pending}
+use Rattle.rss_wire.specs.Messages.{meets, asks, request_envelope, same_target}
+use Rattle.rss_tables.specs.Outs.{slot_count, slot_replica, line_slot}
+use Rattle.rss_tables.specs.RegisterSession.{phase_end}
+use Rattle.rss_tables.specs.Works.{Works, planned, plan_all, no_works}
+use Rattle.rss_machine.specs.Effect.{opens_round, least_shard}
+use Rattle.rss_machine.specs.Moves.{round_without}
+use Rattle.rss_machine.specs.Slots.{slot_in, slot_from, with_current, without_target, unless_with}
+use Rattle.rss_machine.specs.State.{no_currents}
+use Rattle.world_laws.specs.Exchanges.{Fits, Exchanges}
+use Rattle.world_laws.proofs.Doings.{turned, listened, fix_session}
+use Rattle.world_laws.proofs.Looks.{get_or_set, get_or_append, get_or_one, get_or_repeat, get_or_past, some_is_not}
+use Rattle.world_laws.proofs.OwnerWalk.{is_busy, busy_there}
+use Rattle.world_laws.proofs.Properly.{after-stays}
+use Rattle.world_laws.proofs.Replies.{meets_envelope, meets_body}
+use Rattle.world_laws.proofs.RequestsProper.{sends_same}
+use Rattle.world_laws.proofs.Sent.{round_outs}
+use Rattle.world_laws.proofs.Stacked.{SentBefore}
+use Rattle.reg_laws.specs.Awaited.{IsAsked, IsAwaited, CurrentsAwaited, IsOwnReply, IsRound, RepliesAreOwn}
+use Rattle.std.proofs.lemmas.List.Elements.{All-tail, All-replicate}
+use Rattle.carstamps.specs.declared.carstamp.Carstamp.{Carstamp}
+use Rattle.rss_tables.specs.RegisterSession.{work_key, first_phase}
+use Rattle.rss_tables.specs.ReplicaRow.{held_at, dep_cell, opening_cell}
+use Rattle.rss_machine.specs.Session.{service_of}
+use Rattle.rss_machine.specs.State.{service_index}
+use Rattle.world_laws.specs.Contexts.{AllDeps}
+use Rattle.world_laws.specs.Registers.{IsRegister}
+use Rattle.world_laws.proofs.Contexts.{deps_weaker, at_place, of_hold, copy_holds}
+use Rattle.world_laws.proofs.Named.{phase_deps, end_deps}
+use Rattle.world_laws.proofs.Sent.{sent_weaker}
+use Rattle.reg_laws.specs.Stored.{WasStored, IsValid, DepIsValid}
+use Rattle.reg_laws.proofs.Awaits.{Awaiting, heard_awaited}
+use Rattle.reg_laws.proofs.Base.{Known, KnownAt, sound_of}
+use Rattle.reg_laws.proofs.Valid.{HeardHolds, found_holds, hears_holds, nobody_holds, work_deps, asks_about, RoundValid, SessionValid, OwnerValid, FixValid, RequestValid, RepliesValid, ReplicasValid, ValidIn, Valid}
+
+-- whether a session is done
+abbrev is_done : RegPhase → Bool
+is_done phase.Fixing = false
+is_done phase.Asking = false
+is_done phase.Stamping = false
+is_done (phase.Storing stamp) = false
+is_done (phase.Done end) = true
+
+-- a round that has reached a majority leaves what it heard
+read_cell : (w : RegWork) (cell other : RegReply) (agreed : Bool) (dep : Option Dep) → phase.Done (read_end w cell agreed) ≡ phase.Done (ends.Read other dep) → cell ≡ other
+read_cell (work.Read key) cell other agreed dep e = read_same cell other (read_dep key cell agreed) dep e
+  where
+    read_same : (a b : RegReply) (d f : Option Dep) → phase.Done (ends.Read a d) ≡ phase.Done (ends.Read b f) → a ≡ b
+    read_same a b d f e = cc
+read_cell (work.Write key value) cell other agreed dep e = read_same cell other None dep e
+  where
+    read_same : (a b : RegReply) (d f : Option Dep) → phase.Done (ends.Read a d) ≡ phase.Done (ends.Read b f) → a ≡ b
+    read_same a b d f e = cc
+read_cell (work.Fix deps) cell other agreed dep e = read_same cell other None dep e
+  where
+    read_same : (a b : RegReply) (d f : Option Dep) → phase.Done (ends.Read a d) ≡ phase.Done (ends.Read b f) → a ≡ b
+    read_same a b d f e = cc
+
+read_left : (net : List Message) (w : RegWork) (cell : RegReply) (agreed : Bool) → ((key : Key) → work_key w ≡ Some key → IsValid net key cell) → All (DepIsValid net) (end_deps (read_end w cell agreed))
+read_left net (work.Write key value) cell agreed h = All-nil (DepIsValid net)
+read_left net (work.Fix deps) cell agreed h = All-nil (DepIsValid net)
+read_left net (work.Read key) cell true h = All-nil (DepIsValid net)
+read_left net (work.Read key) cell false h = All-cons (DepIsValid net) (record { key = key; value = cell.value; stamp = cell.stamp; writer = cell.writer }) [] (h key refl) (All-nil (DepIsValid net))
+
+reached_valid : (net : List Message) (r : RegSession) (p : RegPhase) → r.phase ≡ p → RoundValid net r → RoundValid net (reached r p)
+reached_valid net r phase.Fixing e h = record {
+  heard = h.heard;
+  fixes = h.fixes;
+  cells = λ key cell dep i f. absurd (fixed_not_read cell dep f);
+  left = All-nil (DepIsValid net);
+}
+  where
+    fixed_not_read : (cell : RegReply) (dep : Option Dep) → phase.Done ends.Fixed ≡ phase.Done (ends.Read cell dep) → ⊥
+    fixed_not_read cell dep e = cc
+reached_valid net r phase.Asking e h =
+    let found : (key : Key) → work_key r.work ≡ Some key → IsValid net key (found_cell (greatest_heard r.round)) = λ key i. found_holds (IsValid net key) r.round (inl refl) (h.heard key i) in
+    record {
+      heard = h.heard;
+      fixes = h.fixes;
+      cells = λ key cell dep i f. subst (IsValid net key) (read_cell r.work (found_cell (greatest_heard r.round)) cell (is_agreed r.round) dep f) (found key i);
+      left = read_left net r.work (found_cell (greatest_heard r.round)) (is_agreed r.round) found;
+    }
+reached_valid net r phase.Stamping e h = record {
+  heard = λ key i. nobody_holds (IsValid net key);
+  fixes = h.fixes;
+  cells = λ key cell dep i f. absurd (storing_not_done _ (ends.Read cell dep) f);
+  left = All-nil (DepIsValid net);
+}
+  where
+    storing_not_done : (x : Carstamp) (d : RegEnd) → phase.Storing x ≡ phase.Done d → ⊥
+    storing_not_done x d e = cc
+reached_valid net r (phase.Storing stamp) e h = record {
+  heard = h.heard;
+  fixes = h.fixes;
+  cells = λ key cell dep i f. absurd (written_not_read stamp cell dep f);
+  left = All-nil (DepIsValid net);
+}
+  where
+    written_not_read : (x : Carstamp) (cell : RegReply) (dep : Option Dep) → phase.Done (ends.Written x) ≡ phase.Done (ends.Read cell dep) → ⊥
+    written_not_read x cell dep e = cc
+reached_valid net r (phase.Done end) e h = h
+
+after_valid : (net : List Message) (f : RegSession) (from : ℕ) (r : Reply) → ((key : Key) → work_key f.work ≡ Some key → IsValid net key (reply_cell r)) → RoundValid net f → RoundValid net (session_after f from r)
+after_valid net f from r v h = cond_both (is_reached g.round) (reached g f.phase) g (RoundValid net) (λ t. reached_valid net g f.phase refl heard) (λ t. heard)
+  where
+    g : RegSession
+    g = record f { round = hears f.round from (reply_cell r) }
+
+    heard : RoundValid net g
+    heard = record {
+      heard = λ key e. hears_holds (IsValid net key) f.round from (reply_cell r) (v key e) (h.heard key e);
+      fixes = h.fixes;
+      cells = h.cells;
+      left = h.left;
+    }
+
+without_valid : (net : List Message) (x : Session) (id : ServiceId) (replica : ℕ) → SessionValid net x → SessionValid net (session_without x (Replica id replica))
+without_valid net (session.Fixing r) id replica h = cond_both (same_service r.service id) _ r (RoundValid net) (λ t. record { heard = h.heard; fixes = h.fixes; cells = h.cells; left = h.left }) (λ t. h)
+without_valid net (session.Register r) id replica h = cond_both (same_service r.service id) _ r (RoundValid net) (λ t. record { heard = h.heard; fixes = h.fixes; cells = h.cells; left = h.left }) (λ t. h)
+without_valid net session.Idle id replica h = tt
+without_valid net (session.Transaction t) id replica h = tt
+without_valid net (session.Snapshot t) id replica h = tt
+without_valid net (session.Settling attempt shards) id replica h = tt
+
+-- a round that begins
+opening_valid : (net : List Message) (c : Config) (s : State) (o : ℕ) (w : RegWork) (id : ServiceId) → All (DepIsValid net) (work_deps w) → RoundValid net (session_for c s o w id)
+opening_valid net c s o w id d = record {
+  heard = λ key e. nobody_holds (IsValid net key);
+  fixes = d;
+  cells = λ key cell dep e f. absurd (first_not_done w (ends.Read cell dep) f);
+  left = first_left w;
+}
+  where
+    plain : (x : RegPhase) (d : RegEnd) → is_done x ≡ false → x ≡ phase.Done d → ⊥
+    plain x d f e = true≢false (sym (ap is_done e) ∙ f)
+
+    first_plain : (w : RegWork) → is_done (first_phase w) ≡ false
+    first_plain (work.Fix deps) = refl
+    first_plain (work.Read key) = refl
+    first_plain (work.Write key value) = refl
+
+    first_not_done : (w : RegWork) (d : RegEnd) → first_phase w ≡ phase.Done d → ⊥
+    first_not_done w d e = plain (first_phase w) d (first_plain w) e
+
+    first_left : (w : RegWork) → All (DepIsValid net) (phase_deps (first_phase w))
+    first_left (work.Fix deps) = All-nil (DepIsValid net)
+    first_left (work.Read key) = All-nil (DepIsValid net)
+    first_left (work.Write key value) = All-nil (DepIsValid net)
+
+-- an owner that is there, and its session
+session_valid : (c : Config) (net : List Message) (s : State) (o : ℕ) → ValidIn c net s → SessionValid net (session_at s o)
+session_valid c net s o h = at_place (OwnerValid net) s.owners o no_owner tt h.owners
+
+-- a heard reply is of what was stored
+phase_about : (call : ℕ) (w : RegWork) (p : RegPhase) (q : Request) (key : Key) → phase_request call w p ≡ Some q → work_key w ≡ Some key → asks_about q ≡ Some key
+phase_about call (work.Fix deps) p q key a b = absurd (none_is_not key b)
+phase_about call (work.Read k) phase.Fixing q key a b = absurd (none_is_not q a)
+phase_about call (work.Read k) phase.Asking q key a b = subst (λ (r : Request). asks_about r ≡ Some key) (some_is (request.Ask k) q a) b
+phase_about call (work.Read k) phase.Stamping q key a b = absurd (none_is_not q a)
+phase_about call (work.Read k) (phase.Storing stamp) q key a b = absurd (none_is_not q a)
+phase_about call (work.Read k) (phase.Done end) q key a b = absurd (none_is_not q a)
+phase_about call (work.Write k value) phase.Fixing q key a b = absurd (none_is_not q a)
+phase_about call (work.Write k value) phase.Asking q key a b = absurd (none_is_not q a)
+phase_about call (work.Write k value) phase.Stamping q key a b = subst (λ (r : Request). asks_about r ≡ Some key) (some_is (request.Stamp k) q a) b
+phase_about call (work.Write k value) (phase.Storing stamp) q key a b = subst (λ (r : Request). asks_about r ≡ Some key) (some_is (request.Store k value stamp call) q a) b
+phase_about call (work.Write k value) (phase.Done end) q key a b = absurd (none_is_not q a)
+
+heard_valid : (c : Config) (s : State) (o slot : ℕ) (r : Reply) (f : RegSession) (key : Key) (d : Heard s o slot r) → IsAsked s.net o f slot (message_at s.net d.number).envelope.exchange → work_key f.work ≡ Some key → Sound s → Valid c s → IsValid s.net key (reply_cell r)
+heard_valid c s o slot r f key d a e g h = by_reply r d.says
+  where
+    target : (message_at s.net d.number).envelope.target ≡ Replica f.service (slot_replica slot)
+    target = (g.sound d.number d.numbered d.sent).target ∙ a.target
+
+    by_reply : (p : Reply) → (message_at s.net d.number).body ≡ body.Reply p → IsValid s.net key (reply_cell p)
+    by_reply (reply.Held value stamp writer) b = h.replies.each d.number value writer (slot_replica slot) stamp f.service a.request key d.numbered d.sent target b a.says (phase_about f.call f.work f.phase a.request key a.of_phase e)
+    by_reply reply.Fixed b = inl refl
+    by_reply reply.Stored b = inl refl
+    by_reply reply.Wounded b = inl refl
+    by_reply (reply.Granted shown) b = inl refl
+    by_reply (reply.Wait holders) b = inl refl
+    by_reply (reply.Prepared time) b = inl refl
+    by_reply (reply.Decided outcome) b = inl refl
+    by_reply reply.Done b = inl refl
+    by_reply (reply.Outcome outcome) b = inl refl
+    by_reply reply.Open b = inl refl
+    by_reply reply.Released b = inl refl
+    by_reply (reply.Blocked holders) b = inl refl
+    by_reply (reply.Values versions skipped) b = inl refl
+
+-- the exchange of what is heard in a round is the round's own
+pub heard_asked : (s : State) (o slot : ℕ) (r : Reply) (f : RegSession) (d : Heard s o slot r) → IsRound (session_at s o) f → Awaiting s → IsAsked s.net o f slot (message_at s.net d.number).envelope.exchange
+heard_asked s o slot r f d (inl x) h = subst (λ (y : Session). IsAwaited s.net o y slot (message_at s.net d.number).envelope.exchange) x (heard_awaited s o slot r d (h.each o))
+heard_asked s o slot r f d (inr x) h = subst (λ (y : Session). IsAwaited s.net o y slot (message_at s.net d.number).envelope.exchange) x (heard_awaited s o slot r d (h.each o))
+
+round_valid : (c : Config) (net : List Message) (s : State) (o : ℕ) (f : RegSession) → IsRound (session_at s o) f → ValidIn c net s → RoundValid net f
+round_valid c net s o f (inl x) h = subst (SessionValid net) x (session_valid c net s o h)
+round_valid c net s o f (inr x) h = subst (SessionValid net) x (session_valid c net s o h)
+
+hearing_valid : (c : Config) (s : State) (o slot : ℕ) (r : Reply) (f : RegSession) → Heard s o slot r → IsRound (session_at s o) f → Known c s → Valid c s → RoundValid s.net (session_after f (slot_replica slot) r)
+hearing_valid c s o slot r f d x g h = after_valid s.net f (slot_replica slot) r (λ key e. heard_valid c s o slot r f key d (heard_asked s o slot r f d x g.1) e (sound_of c s g) h) (round_valid c s.net s o f x h)
+
+-- owners go on with what was stored
+leaving_valid : (c : Config) (at : Reading) (s : State) (o : ℕ) (w : Owner) (outs : List Out) → Leaving c at s o w outs → Valid c s → OwnerValid s.net w
+leaving_valid c at s o _ _ (waits id time rest l) h = session_valid c s.net s o h
+leaving_valid c at s o _ _ (fixes_work id rest l) h = opening_valid s.net c s o _ id (of_hold (DepIsValid s.net) id (owner_at s o).works.copy.deps (copy_holds (DepIsValid s.net) s o h.deps))
+leaving_valid c at s o _ _ (fixes_own x dep deps l e d) h = opening_valid s.net c s o _ (service_of x) (of_hold (DepIsValid s.net) (service_of x) (owner_at s o).works.copy.deps (copy_holds (DepIsValid s.net) s o h.deps))
+leaving_valid c at s o _ _ (asks_register key l e d) h = opening_valid s.net c s o (work.Read key) key.service (All-nil (DepIsValid s.net))
+leaving_valid c at s o _ _ (stamps_register key value l e d) h = opening_valid s.net c s o (work.Write key value) key.service (All-nil (DepIsValid s.net))
+leaving_valid c at s o _ _ (begins_snapshot keys t l e d) h = tt
+leaving_valid c at s o _ _ (begins_txn reads guard writes t l e d) h = tt
+leaving_valid c at s o _ _ (fence_done l e) h = session_valid c s.net s o h
+leaving_valid c at s o _ _ (stub_done u l e) h = session_valid c s.net s o h
+
+working_valid : (at : Reading) (s : State) (o : ℕ) (w : Owner) (net : List Message) → Working at s o w → OwnerValid net (owner_at s o) → OwnerValid net w
+working_valid at s o _ net (owes_nothing id rest l) h = tt
+working_valid at s o _ net (is_past id time rest l e) h = tt
+working_valid at s o _ net (enters_own x l e f) h = h
+
+resting_valid : (s : State) (o : ℕ) (w : Owner) (net : List Message) → Resting s o w → OwnerValid net w
+resting_valid s o _ net (plans e b) = tt
+resting_valid s o _ net (past id x rest time l e) = tt
+resting_valid s o _ net (fixed id x rest r e l a b d) = tt
+resting_valid s o _ net (cleared r e l a b d) = tt
+
+turning_valid : (s : State) (o : ℕ) (x : Session) (outs : List Out) (net : List Message) → ShardTurning s o x outs → SessionValid net x
+turning_valid s o _ _ net (txn_heard t l at r e) = tt
+turning_valid s o _ _ net (txn_woken t l e) = tt
+turning_valid s o _ _ net (txn_passed t e) = tt
+turning_valid s o _ _ net (snap_heard t l r e) = tt
+turning_valid s o _ _ net (snap_woken t l e) = tt
+
+doing_valid : (c : Config) (s : State) (o : ℕ) (w : Owner) (outs : List Out) (new : List Dep) → Doing s o w outs new → Known c s → Valid c s → OwnerValid s.net w
+doing_valid c s o _ _ _ (listens_one slot r d) g h = session_valid c s.net s o h
+doing_valid c s o _ _ _ (fix_hears f slot r x d e) g h = hearing_valid c s o slot r f d (inl x) g h
+doing_valid c s o _ _ _ (fix_reached f slot r y x d e) g h = hearing_valid c s o slot r f d (inl x) g h
+doing_valid c s o _ _ _ (register_hears f slot r x d a e) g h = hearing_valid c s o slot r f d (inr x) g h
+doing_valid c s o _ _ _ (register_stores f slot r x d a e) g h = hearing_valid c s o slot r f d (inr x) g h
+doing_valid c s o _ _ _ (register_reached f slot r y x d e) g h = hearing_valid c s o slot r f d (inr x) g h
+doing_valid c s o _ _ _ (read_ends f key cell dep x a b) g h = session_valid c s.net s o h
+doing_valid c s o _ _ _ (write_ends f key value e x a b) g h = session_valid c s.net s o h
+doing_valid c s o _ _ _ (txn_ends y t time a b d) g h = session_valid c s.net s o h
+doing_valid c s o _ _ _ (snap_ends y t time a b d) g h = session_valid c s.net s o h
+doing_valid c s o _ _ _ (counts_one target) g h = session_valid c s.net s o h
+doing_valid c s o _ _ _ (cuts_one id replica) g h = without_valid s.net (session_at s o) id replica (session_valid c s.net s o h)
+doing_valid c s o _ _ _ (is_closed f) g h = session_valid c s.net s o h
+doing_valid c s o _ _ _ forgets_all g h = session_valid c s.net s o h
+doing_valid c s o _ _ _ (turns x outs y) g h = turning_valid s o x outs s.net y
+doing_valid c s o _ _ _ (stub_asks attempt shards e b) g h = tt
+
+-- the dependencies that are new were stored
+new_valid : (c : Config) (s : State) (o : ℕ) (w : Owner) (outs : List Out) (new : List Dep) → Doing s o w outs new → Valid c s → All (DepIsValid s.net) new
+new_valid c s o _ _ _ (listens_one slot r d) h = All-nil (DepIsValid s.net)
+new_valid c s o _ _ _ (fix_hears f slot r x d e) h = All-nil (DepIsValid s.net)
+new_valid c s o _ _ _ (fix_reached f slot r y x d e) h = All-nil (DepIsValid s.net)
+new_valid c s o _ _ _ (register_hears f slot r x d a e) h = All-nil (DepIsValid s.net)
+new_valid c s o _ _ _ (register_stores f slot r x d a e) h = All-nil (DepIsValid s.net)
+new_valid c s o _ _ _ (register_reached f slot r y x d e) h = All-nil (DepIsValid s.net)
+new_valid c s o _ _ _ (read_ends f key cell dep x a b) h = subst (λ (p : RegPhase). All (DepIsValid s.net) (phase_deps p)) b (round_valid c s.net s o f (inr x) h).left
+new_valid c s o _ _ _ (write_ends f key value e x a b) h = All-nil (DepIsValid s.net)
+new_valid c s o _ _ _ (txn_ends y t time a b d) h = All-nil (DepIsValid s.net)
+new_valid c s o _ _ _ (snap_ends y t time a b d) h = All-nil (DepIsValid s.net)
+new_valid c s o _ _ _ (counts_one target) h = All-nil (DepIsValid s.net)
+new_valid c s o _ _ _ (cuts_one id replica) h = All-nil (DepIsValid s.net)
+new_valid c s o _ _ _ (is_closed f) h = All-nil (DepIsValid s.net)
+new_valid c s o _ _ _ forgets_all h = All-nil (DepIsValid s.net)
+new_valid c s o _ _ _ (turns x outs y) h = All-nil (DepIsValid s.net)
+new_valid c s o _ _ _ (stub_asks attempt shards e b) h = All-nil (DepIsValid s.net)

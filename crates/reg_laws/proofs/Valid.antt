@@ -1,0 +1,278 @@
+-- What it is that all that stands in a state was stored: what replicas hold and show, what contexts depend
+-- on, and what rounds have heard. What was stored stays so where the net grows.
+use Rattle.std.proofs.Common.{◌≡◌, ℕ, zero, suc, ◌<◌, ◌≤◌, Bool, true, false, List, [], ◌∷◌, ◌++◌, All, map, length, get_or, Option, Some, None, refl, ap, sym, ◌∙◌, subst, arith}
+use Rattle.std.specs.Prelude.{⊤}
+use Rattle.std.proofs.Math.ListN.{set}
+use Rattle.std.proofs.lemmas.Bool.{cond_both}
+use Rattle.std.proofs.lemmas.List.Elements.{All-cons, All-nil, All-head, All-set, All-push, All-map, All-weaker}
+use Rattle.truetime.specs.Reading.{Reading}
+use Rattle.rss_names.specs.declared.attempt.Attempt.{Attempt}
+use Rattle.rss_names.specs.declared.service.Key.{Key}
+use Rattle.rss_names.specs.declared.service.ServiceId.{ServiceId}
+use Rattle.rss_names.specs.declared.service.Target.{Target}
+use Rattle.rss_names.specs.declared.service.Target.TheVariants.{Shard, Replica}
+use Rattle.rss_names.specs.Services.{same_service}
+use Rattle.causal_context.specs.declared.dep.Dep.{Dep}
+use Rattle.causal_context.specs.Deps.{deps_of, given_dep}
+use Rattle.pipeline_lang.specs.declared.config.Config.{Config}
+use Rattle.pipeline_lang.specs.declared.script.Statement.{Statement}
+use Rattle.pipeline_lang.specs.declared.script.Statement.TheVariants as statement
+use Rattle.pipeline_lang.specs.Config.{statement_at}
+use Rattle.rss_model.specs.CallStatement.{op_of_statement}
+use Rattle.rss_model.specs.declared.op.Op.{Op}
+use Rattle.rss_model.specs.declared.op.Op.TheVariants as op
+use Rattle.rss_wire.specs.Messages.{message_at}
+use Rattle.rss_wire.specs.declared.message.Body.TheVariants as body
+use Rattle.rss_wire.specs.declared.message.Message.{Message}
+use Rattle.rss_wire.specs.declared.messages.Outcome.{Outcome}
+use Rattle.rss_wire.specs.declared.messages.RegReply.{RegReply}
+use Rattle.rss_wire.specs.declared.messages.Reply.{Reply}
+use Rattle.rss_wire.specs.declared.messages.Reply.TheVariants as reply
+use Rattle.rss_wire.specs.declared.messages.Request.{Request}
+use Rattle.rss_wire.specs.declared.messages.Request.TheVariants as request
+use Rattle.rss_tables.specs.Lines.{tells_decision}
+use Rattle.rss_tables.specs.Outs.{Out}
+use Rattle.rss_tables.specs.RegisterSession.{RegSession, phase_request, session_after, reached, reply_cell, read_end, read_dep, found_cell}
+use Rattle.rss_tables.specs.Round.{Round, was_heard, hears, is_reached, greatest_heard, is_agreed}
+use Rattle.rss_tables.specs.declared.register_session.RegEnd.{RegEnd}
+use Rattle.rss_tables.specs.declared.register_session.RegEnd.TheVariants as ends
+use Rattle.rss_tables.specs.declared.register_session.RegPhase.{RegPhase}
+use Rattle.rss_tables.specs.declared.register_session.RegPhase.TheVariants as phase
+use Rattle.rss_tables.specs.declared.register_session.RegWork.{RegWork}
+use Rattle.rss_tables.specs.declared.register_session.RegWork.TheVariants as work
+use Rattle.rss_machine.specs.Calls.{session_for}
+use Rattle.rss_machine.specs.Effect.{stepped}
+use Rattle.rss_machine.specs.Moves.{ticks, sends_one, sends, session_without, serves_replica, notes_served, listens, plans_stub}
+use Rattle.rss_machine.specs.Refusal.{refusal}
+use Rattle.rss_machine.specs.Run.{run, run_from}
+use Rattle.rss_machine.specs.Session.{Session}
+use Rattle.rss_machine.specs.State.{State, Owner, start, owner_at, no_owner, stage_at, opening_owner}
+use Rattle.rss_machine.specs.declared.session.OwnerKind.{OwnerKind}
+use Rattle.rss_machine.specs.declared.session.OwnerKind.TheVariants as kind
+use Rattle.rss_machine.specs.declared.session.Session.TheVariants as session
+use Rattle.rss_machine.specs.declared.step.Step.{Step}
+use Rattle.world_laws.proofs.Doings.{Changed, Heard, Beginning, calls, fences, Resting, plans, past, fixed, cleared, Working, owes_nothing, is_past, enters_own, Leaving, waits, fixes_work, fixes_own, asks_register, stamps_register, begins_snapshot, begins_txn, fence_done, stub_done, ShardTurning, txn_heard, txn_woken, txn_passed, snap_heard, snap_woken, Doing, listens_one, fix_hears, fix_reached, register_hears, register_stores, register_reached, read_ends, write_ends, txn_ends, snap_ends, counts_one, cuts_one, is_closed, forgets_all, turns, stub_asks}
+use Rattle.std.proofs.lemmas.Bool.{false≢true}
+use Rattle.world_laws.proofs.Looks.{looks, some_is, none_is_not}
+use Rattle.world_laws.proofs.OwnerWalk.{OwnerKeeps, owner_walk}
+use Rattle.world_laws.proofs.Runs.{passes, run_rest, run_none}
+use Rattle.world_laws.proofs.Sent.{SessionOut, RoundOut, ToShard, to_shard, IsTold, decision_outs, leaving_outs, doing_outs, sends_each, SentAll, sent_meets, sent_asks, sent_answers}
+use Rattle.world_laws.proofs.SessionWalk.{session_at, IsAgain}
+use Rattle.world_laws.proofs.StoreWalk.{SameStores}
+use Rattle.world_laws.proofs.Runs.{run_keeps}
+use Rattle.world_laws.proofs.Replies.{Sound, sound_keeps, sound_start}
+use Rattle.world_laws.proofs.Stacked.{OwnerKeepsUnder, stacked, store_owner, sent_before}
+use Rattle.world_laws.proofs.Sent.{sent_none}
+use Rattle.std.proofs.Common.{◌-◌, ◌⊎◌, inl, inr}
+use Rattle.std.specs.Prelude.{◌==◌, if◌then◌else◌}
+use Rattle.std.proofs.lemmas.Bool.{true≢false, eqb-true}
+use Rattle.std.proofs.lemmas.List.{get_or-set_same}
+use Rattle.carstamps.specs.Stamp.{next_stamp}
+use Rattle.rss_wire.specs.declared.envelope.Envelope.{Envelope}
+use Rattle.rss_wire.specs.declared.message.Fate.{Fate}
+use Rattle.rss_wire.specs.declared.message.Fate.TheVariants.{Pending}
+use Rattle.rss_wire.specs.Messages.{meets, asks, request_envelope, same_target}
+use Rattle.rss_tables.specs.Outs.{slot_count, slot_replica, line_slot}
+use Rattle.rss_tables.specs.RegisterSession.{phase_end}
+use Rattle.rss_tables.specs.Works.{Works, planned, plan_all, no_works}
+use Rattle.rss_machine.specs.Effect.{opens_round, least_shard}
+use Rattle.rss_machine.specs.Moves.{round_without}
+use Rattle.rss_machine.specs.Slots.{slot_in, slot_from, with_current, without_target, unless_with}
+use Rattle.rss_machine.specs.State.{no_currents}
+use Rattle.world_laws.specs.Exchanges.{Fits, Exchanges}
+use Rattle.world_laws.proofs.Doings.{turned, listened, fix_session}
+use Rattle.world_laws.proofs.Looks.{get_or_set, get_or_append, get_or_one, get_or_repeat, get_or_past, some_is_not}
+use Rattle.world_laws.proofs.OwnerWalk.{is_busy, busy_there}
+use Rattle.world_laws.proofs.Properly.{after-stays}
+use Rattle.world_laws.proofs.Replies.{meets_envelope, meets_body}
+use Rattle.world_laws.proofs.RequestsProper.{sends_same}
+use Rattle.world_laws.proofs.Sent.{round_outs}
+use Rattle.world_laws.proofs.Stacked.{SentBefore}
+use Rattle.reg_laws.specs.Awaited.{IsAsked, IsAwaited, CurrentsAwaited, IsOwnReply, IsRound, RepliesAreOwn}
+use Rattle.std.proofs.lemmas.List.Elements.{All-tail, All-replicate}
+use Rattle.carstamps.specs.declared.carstamp.Carstamp.{Carstamp}
+use Rattle.carstamps.specs.Stamp.{stamp_lt}
+use Rattle.rss_tables.specs.RegisterSession.{work_key}
+use Rattle.rss_tables.specs.ReplicaRow.{held_at, dep_cell, opening_cell}
+use Rattle.rss_tables.specs.Round.{greater_cell, greatest_after, nobody_heard}
+use Rattle.rss_machine.specs.State.{service_index}
+use Rattle.world_laws.specs.Contexts.{AllDeps}
+use Rattle.world_laws.specs.Registers.{IsRegister}
+use Rattle.world_laws.proofs.Contexts.{deps_weaker}
+use Rattle.world_laws.proofs.Named.{phase_deps}
+use Rattle.world_laws.proofs.Sent.{sent_weaker}
+use Rattle.reg_laws.specs.Stored.{WasStored, IsValid, DepIsValid}
+
+-- a net that has grown: what was sent keeps its outside and what it says
+pub record Grows (net more : List Message) : Type 0 where
+  pub longer : length net ≤ length more
+  pub envelopes : (m : ℕ) → m < length net → (message_at more m).envelope ≡ (message_at net m).envelope
+  pub bodies : (m : ℕ) → m < length net → (message_at more m).body ≡ (message_at net m).body
+
+pub grows_more : (net : List Message) (x : Message) → Grows net (net ++ x ∷ [])
+grows_more net x = record { longer = grind (arith, looks); envelopes = λ m l. ap (λ (y : Message). y.envelope) (old net x m l); bodies = λ m l. ap (λ (y : Message). y.body) (old net x m l) }
+  where
+    old : (net : List Message) (x : Message) (m : ℕ) → m < length net → message_at (net ++ x ∷ []) m ≡ message_at net m
+    old net x m l = grind (arith, looks, l)
+
+pub grows_meets : (net : List Message) (m : ℕ) (f : Fate) → Grows net (meets net m f)
+grows_meets net m f = record { longer = grind (arith, looks); envelopes = λ k l. meets_envelope net m f k; bodies = λ k l. meets_body net m f k }
+
+pub stored_grows : (net more : List Message) (key : Key) (cell : RegReply) → Grows net more → WasStored net key cell → WasStored more key cell
+stored_grows net more key cell g h = record {
+  number = h.number;
+  sent = let a = g.longer in let b = h.sent in omega (arith, a, b);
+  service = h.service;
+  replica = h.replica;
+  target = ap (λ (e : Envelope). e.target) (g.envelopes h.number h.sent) ∙ h.target;
+  says = g.bodies h.number h.sent ∙ h.says;
+}
+
+pub valid_grows : (net more : List Message) (key : Key) (cell : RegReply) → Grows net more → IsValid net key cell → IsValid more key cell
+valid_grows net more key cell g (inl e) = inl e
+valid_grows net more key cell g (inr h) = inr (stored_grows net more key cell g h)
+
+-- what is true of each cell that was heard
+abbrev pub HeardHolds : (RegReply → Type 0) → Option RegReply → Type 0
+HeardHolds G q = (cell : RegReply) → q ≡ Some cell → G cell
+
+greater_holds : (G : RegReply → Type 0) (best : Option RegReply) (cell : RegReply) → HeardHolds G best → G cell → G (greater_cell best cell)
+greater_holds G None cell b h = h
+greater_holds G (Some best) cell b h = cond_both (stamp_lt best.stamp cell.stamp) cell best G (λ t. h) (λ f. b best refl)
+
+greatest_holds : (G : RegReply → Type 0) → G opening_cell → (heard : List (Option RegReply)) (best : Option RegReply) → HeardHolds G best → All (HeardHolds G) heard → G (found_cell (greatest_after best heard))
+greatest_holds G o [] None b a = o
+greatest_holds G o [] (Some cell) b a = b cell refl
+greatest_holds G o (None ∷ heard) best b a = greatest_holds G o heard best b (All-tail (HeardHolds G) None heard a)
+greatest_holds G o (Some cell ∷ heard) best b a =
+    greatest_holds G o heard (Some (greater_cell best cell)) (λ c e. subst G (some_is (greater_cell best cell) c e) (greater_holds G best cell b (All-head (HeardHolds G) (Some cell) heard a cell refl))) (All-tail (HeardHolds G) (Some cell) heard a)
+
+pub found_holds : (G : RegReply → Type 0) (round : Round) → G opening_cell → All (HeardHolds G) round.heard → G (found_cell (greatest_heard round))
+found_holds G round o a = greatest_holds G o round.heard None (λ c e. absurd (none_is_not c e)) a
+
+pub hears_holds : (G : RegReply → Type 0) (round : Round) (from : ℕ) (cell : RegReply) → G cell → All (HeardHolds G) round.heard → All (HeardHolds G) (hears round from cell).heard
+hears_holds G round from cell g a = cond_both (was_heard round from) round (record round { heard = set round.heard (from - 1) (Some cell) }) (λ (x : Round). All (HeardHolds G) x.heard) (λ t. a) (λ f. All-set (HeardHolds G) round.heard (from - 1) (Some cell) (λ c e. subst G (some_is cell c e) g) a)
+
+pub nobody_holds : (G : RegReply → Type 0) → All (HeardHolds G) nobody_heard
+nobody_holds G = All-replicate (HeardHolds G) 7 None (λ c e. absurd (none_is_not c e))
+
+-- the dependencies that a work stores
+abbrev pub work_deps : RegWork → List Dep
+work_deps (work.Fix deps) = deps
+work_deps (work.Read key) = []
+work_deps (work.Write key value) = []
+
+-- the register that a request asks about
+abbrev pub asks_about : Request → Option Key
+asks_about (request.Ask key) = Some key
+asks_about (request.Stamp key) = Some key
+asks_about (request.Store key value stamp writer) = Some key
+asks_about (request.Fix deps) = None
+asks_about (request.Lock attempt coordinator reads writes) = None
+asks_about (request.Prepare attempt least earliest_end writes) = None
+asks_about (request.Decide attempt commit time) = None
+asks_about (request.Commit attempt commit_time) = None
+asks_about (request.Abort attempt) = None
+asks_about (request.Inquire attempt) = None
+asks_about (request.Release attempt time last) = None
+asks_about (request.Snapshot read_time least keys skip) = None
+
+-- what a round has heard, works on and leaves was stored
+pub record RoundValid (net : List Message) (r : RegSession) : Type 0 where
+  pub heard : (key : Key) → work_key r.work ≡ Some key → All (HeardHolds (IsValid net key)) r.round.heard
+  pub fixes : All (DepIsValid net) (work_deps r.work)
+  pub cells : (key : Key) (cell : RegReply) (dep : Option Dep) → work_key r.work ≡ Some key → r.phase ≡ phase.Done (ends.Read cell dep) → IsValid net key cell
+  pub left : All (DepIsValid net) (phase_deps r.phase)
+
+abbrev pub SessionValid : List Message → Session → Type 0
+SessionValid net (session.Fixing r) = RoundValid net r
+SessionValid net (session.Register r) = RoundValid net r
+SessionValid net session.Idle = ⊤
+SessionValid net (session.Transaction t) = ⊤
+SessionValid net (session.Snapshot t) = ⊤
+SessionValid net (session.Settling attempt shards) = ⊤
+
+abbrev pub OwnerValid : List Message → Owner → Type 0
+OwnerValid net w = SessionValid net w.session
+
+-- what a round of dependencies asks replicas to store was stored
+abbrev pub FixValid : List Message → Request → Type 0
+FixValid net (request.Fix deps) = All (DepIsValid net) deps
+FixValid net (request.Ask key) = ⊤
+FixValid net (request.Stamp key) = ⊤
+FixValid net (request.Store key value stamp writer) = ⊤
+FixValid net (request.Lock attempt coordinator reads writes) = ⊤
+FixValid net (request.Prepare attempt least earliest_end writes) = ⊤
+FixValid net (request.Decide attempt commit time) = ⊤
+FixValid net (request.Commit attempt commit_time) = ⊤
+FixValid net (request.Abort attempt) = ⊤
+FixValid net (request.Inquire attempt) = ⊤
+FixValid net (request.Release attempt time last) = ⊤
+FixValid net (request.Snapshot read_time least keys skip) = ⊤
+
+abbrev pub RequestValid : List Message → ℕ → Target → Request → Type 0
+RequestValid net o (Shard n) r = ⊤
+RequestValid net o (Replica service replica) r = FixValid net r
+
+-- what a replica shows of a register was stored
+pub record RepliesValid (net sent : List Message) : Type 0 where
+  pub each : (m value writer replica : ℕ) (stamp : Carstamp) (service : ServiceId) (q : Request) (key : Key) → 0 < m → m < length sent → (message_at sent m).envelope.target ≡ Replica service replica → (message_at sent m).body ≡ body.Reply (reply.Held value stamp writer)
+      → (message_at sent (message_at sent m).envelope.exchange).body ≡ body.Request q → asks_about q ≡ Some key → IsValid net key (record { value = value; stamp = stamp; writer = writer })
+
+pub record ReplicasValid (c : Config) (net : List Message) (replicas : List (List (List RegReply))) : Type 0 where
+  pub each : (key : Key) (place : ℕ) → IsRegister c key → IsValid net key (held_at (get_or (get_or replicas (service_index key.service) []) place []) key)
+
+-- all that stands in a state was stored, by what was sent
+pub record ValidIn (c : Config) (net : List Message) (s : State) : Type 0 where
+  pub owners : All (OwnerValid net) s.owners
+  pub deps : AllDeps (DepIsValid net) s
+  pub messages : SentAll (RequestValid net) s.net
+  pub replies : RepliesValid net s.net
+  pub replicas : ReplicasValid c net s.replicas
+
+abbrev pub Valid : Config → State → Type 0
+Valid c s = ValidIn c s.net s
+
+-- what was stored stays so where the net grows
+dep_grows : (net more : List Message) → Grows net more → (dep : Dep) → DepIsValid net dep → DepIsValid more dep
+dep_grows net more g dep h = valid_grows net more dep.key (dep_cell dep) g h
+
+round_grows : (net more : List Message) → Grows net more → (r : RegSession) → RoundValid net r → RoundValid more r
+round_grows net more g r h = record {
+  heard = λ key e. All-weaker (HeardHolds (IsValid net key)) (HeardHolds (IsValid more key)) (λ q f cell d. valid_grows net more key cell g (f cell d)) r.round.heard (h.heard key e);
+  fixes = All-weaker (DepIsValid net) (DepIsValid more) (dep_grows net more g) (work_deps r.work) h.fixes;
+  cells = λ key cell dep e f. valid_grows net more key cell g (h.cells key cell dep e f);
+  left = All-weaker (DepIsValid net) (DepIsValid more) (dep_grows net more g) (phase_deps r.phase) h.left;
+}
+
+session_grows : (net more : List Message) → Grows net more → (x : Session) → SessionValid net x → SessionValid more x
+session_grows net more g (session.Fixing r) h = round_grows net more g r h
+session_grows net more g (session.Register r) h = round_grows net more g r h
+session_grows net more g session.Idle h = tt
+session_grows net more g (session.Transaction t) h = tt
+session_grows net more g (session.Snapshot t) h = tt
+session_grows net more g (session.Settling attempt shards) h = tt
+
+request_grows : (net more : List Message) → Grows net more → (o : ℕ) (t : Target) (r : Request) → RequestValid net o t r → RequestValid more o t r
+request_grows net more g o (Shard n) r h = tt
+request_grows net more g o (Replica service replica) (request.Fix deps) h = All-weaker (DepIsValid net) (DepIsValid more) (dep_grows net more g) deps h
+request_grows net more g o (Replica service replica) (request.Ask key) h = tt
+request_grows net more g o (Replica service replica) (request.Stamp key) h = tt
+request_grows net more g o (Replica service replica) (request.Store key value stamp writer) h = tt
+request_grows net more g o (Replica service replica) (request.Lock attempt coordinator reads writes) h = tt
+request_grows net more g o (Replica service replica) (request.Prepare attempt least earliest_end writes) h = tt
+request_grows net more g o (Replica service replica) (request.Decide attempt commit time) h = tt
+request_grows net more g o (Replica service replica) (request.Commit attempt commit_time) h = tt
+request_grows net more g o (Replica service replica) (request.Abort attempt) h = tt
+request_grows net more g o (Replica service replica) (request.Inquire attempt) h = tt
+request_grows net more g o (Replica service replica) (request.Release attempt time last) h = tt
+request_grows net more g o (Replica service replica) (request.Snapshot read_time least keys skip) h = tt
+
+pub valid_more : (c : Config) (net more : List Message) (s : State) → Grows net more → ValidIn c net s → ValidIn c more s
+valid_more c net more s g h = record {
+  owners = All-weaker (OwnerValid net) (OwnerValid more) (λ w. session_grows net more g w.session) s.owners h.owners;
+  deps = deps_weaker (DepIsValid net) (DepIsValid more) (dep_grows net more g) s h.deps;
+  messages = sent_weaker (RequestValid net) (RequestValid more) (request_grows net more g) s.net h.messages;
+  replies = record { each = λ m value writer replica stamp service q key z l t b a e. valid_grows net more key _ g (h.replies.each m value writer replica stamp service q key z l t b a e) };
+  replicas = record { each = λ key place i. valid_grows net more key _ g (h.replicas.each key place i) };
+}
