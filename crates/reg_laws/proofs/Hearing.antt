@@ -219,7 +219,7 @@ opening_valid net c s o w id d = record {
     first_left (work.Write key value) = All-nil (DepIsValid net)
 
 -- an owner that is there, and its session
-session_valid : (c : Config) (net : List Message) (s : State) (o : ℕ) → ValidIn c net s → SessionValid net (session_at s o)
+pub session_valid : (c : Config) (net : List Message) (s : State) (o : ℕ) → ValidIn c net s → SessionValid net (session_at s o)
 session_valid c net s o h = at_place (OwnerValid net) s.owners o no_owner tt h.owners
 
 -- a heard reply is of what was stored
@@ -271,7 +271,7 @@ hearing_valid : (c : Config) (s : State) (o slot : ℕ) (r : Reply) (f : RegSess
 hearing_valid c s o slot r f d x g h = after_valid s.net f (slot_replica slot) r (λ key e. heard_valid c s o slot r f key d (heard_asked s o slot r f d x g.1) e (sound_of c s g) h) (round_valid c s.net s o f x h)
 
 -- owners go on with what was stored
-leaving_valid : (c : Config) (at : Reading) (s : State) (o : ℕ) (w : Owner) (outs : List Out) → Leaving c at s o w outs → Valid c s → OwnerValid s.net w
+pub leaving_valid : (c : Config) (at : Reading) (s : State) (o : ℕ) (w : Owner) (outs : List Out) → Leaving c at s o w outs → Valid c s → OwnerValid s.net w
 leaving_valid c at s o _ _ (waits id time rest l) h = session_valid c s.net s o h
 leaving_valid c at s o _ _ (fixes_work id rest l) h = opening_valid s.net c s o _ id (of_hold (DepIsValid s.net) id (owner_at s o).works.copy.deps (copy_holds (DepIsValid s.net) s o h.deps))
 leaving_valid c at s o _ _ (fixes_own x dep deps l e d) h = opening_valid s.net c s o _ (service_of x) (of_hold (DepIsValid s.net) (service_of x) (owner_at s o).works.copy.deps (copy_holds (DepIsValid s.net) s o h.deps))
@@ -282,12 +282,12 @@ leaving_valid c at s o _ _ (begins_txn reads guard writes t l e d) h = tt
 leaving_valid c at s o _ _ (fence_done l e) h = session_valid c s.net s o h
 leaving_valid c at s o _ _ (stub_done u l e) h = session_valid c s.net s o h
 
-working_valid : (at : Reading) (s : State) (o : ℕ) (w : Owner) (net : List Message) → Working at s o w → OwnerValid net (owner_at s o) → OwnerValid net w
+pub working_valid : (at : Reading) (s : State) (o : ℕ) (w : Owner) (net : List Message) → Working at s o w → OwnerValid net (owner_at s o) → OwnerValid net w
 working_valid at s o _ net (owes_nothing id rest l) h = tt
 working_valid at s o _ net (is_past id time rest l e) h = tt
 working_valid at s o _ net (enters_own x l e f) h = h
 
-resting_valid : (s : State) (o : ℕ) (w : Owner) (net : List Message) → Resting s o w → OwnerValid net w
+pub resting_valid : (s : State) (o : ℕ) (w : Owner) (net : List Message) → Resting s o w → OwnerValid net w
 resting_valid s o _ net (plans e b) = tt
 resting_valid s o _ net (past id x rest time l e) = tt
 resting_valid s o _ net (fixed id x rest r e l a b d) = tt
@@ -300,7 +300,7 @@ turning_valid s o _ _ net (txn_passed t e) = tt
 turning_valid s o _ _ net (snap_heard t l r e) = tt
 turning_valid s o _ _ net (snap_woken t l e) = tt
 
-doing_valid : (c : Config) (s : State) (o : ℕ) (w : Owner) (outs : List Out) (new : List Dep) → Doing s o w outs new → Known c s → Valid c s → OwnerValid s.net w
+pub doing_valid : (c : Config) (s : State) (o : ℕ) (w : Owner) (outs : List Out) (new : List Dep) → Doing s o w outs new → Known c s → Valid c s → OwnerValid s.net w
 doing_valid c s o _ _ _ (listens_one slot r d) g h = session_valid c s.net s o h
 doing_valid c s o _ _ _ (fix_hears f slot r x d e) g h = hearing_valid c s o slot r f d (inl x) g h
 doing_valid c s o _ _ _ (fix_reached f slot r y x d e) g h = hearing_valid c s o slot r f d (inl x) g h
@@ -319,7 +319,7 @@ doing_valid c s o _ _ _ (turns x outs y) g h = turning_valid s o x outs s.net y
 doing_valid c s o _ _ _ (stub_asks attempt shards e b) g h = tt
 
 -- the dependencies that are new were stored
-new_valid : (c : Config) (s : State) (o : ℕ) (w : Owner) (outs : List Out) (new : List Dep) → Doing s o w outs new → Valid c s → All (DepIsValid s.net) new
+pub new_valid : (c : Config) (s : State) (o : ℕ) (w : Owner) (outs : List Out) (new : List Dep) → Doing s o w outs new → Valid c s → All (DepIsValid s.net) new
 new_valid c s o _ _ _ (listens_one slot r d) h = All-nil (DepIsValid s.net)
 new_valid c s o _ _ _ (fix_hears f slot r x d e) h = All-nil (DepIsValid s.net)
 new_valid c s o _ _ _ (fix_reached f slot r y x d e) h = All-nil (DepIsValid s.net)

@@ -3,3 +3,4 @@ pub mod Base
 pub mod Stores
 pub mod Valid
 pub mod Hearing
+pub mod ValidRuns

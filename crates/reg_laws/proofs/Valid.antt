@@ -253,7 +253,7 @@ session_grows net more g (session.Transaction t) h = tt
 session_grows net more g (session.Snapshot t) h = tt
 session_grows net more g (session.Settling attempt shards) h = tt
 
-request_grows : (net more : List Message) → Grows net more → (o : ℕ) (t : Target) (r : Request) → RequestValid net o t r → RequestValid more o t r
+pub request_grows : (net more : List Message) → Grows net more → (o : ℕ) (t : Target) (r : Request) → RequestValid net o t r → RequestValid more o t r
 request_grows net more g o (Shard n) r h = tt
 request_grows net more g o (Replica service replica) (request.Fix deps) h = All-weaker (DepIsValid net) (DepIsValid more) (dep_grows net more g) deps h
 request_grows net more g o (Replica service replica) (request.Ask key) h = tt

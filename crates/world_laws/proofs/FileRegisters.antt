@@ -36,11 +36,11 @@ use Rattle.world_laws.proofs.NamedRuns.{named_run}
 use Rattle.world_laws.proofs.RequestsProper.{proper_run}
 
 -- a register of the file is the only one of its number
-same_number : (c : Config) (a b : Key) → IsRegister c a → IsRegister c b → a.index ≡ b.index → a.service ≡ b.service
+pub same_number : (c : Config) (a b : Key) → IsRegister c a → IsRegister c b → a.index ≡ b.index → a.service ≡ b.service
 same_number c a b g h e = sym g.kept_by ∙ (ap (λ (n : ℕ). service_of_register c n) e ∙ h.kept_by)
 
 -- two register services have two places
-same_place : (c : Config) (a b : Key) → IsRegister c a → IsRegister c b → service_index a.service ≡ service_index b.service → a.service ≡ b.service
+pub same_place : (c : Config) (a b : Key) → IsRegister c a → IsRegister c b → service_index a.service ≡ service_index b.service → a.service ≡ b.service
 same_place c a b g h e =
     let m : service_index a.service ≡ g.number - 1 = ap service_index g.is in
     let n : service_index b.service ≡ h.number - 1 = ap service_index h.is in

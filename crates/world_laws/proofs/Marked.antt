@@ -60,7 +60,7 @@ same_service_is (Reg a) (Reg b) e = ap Reg (eqb-true a b e)
 same_service_is (Txn a) (Reg b) e = absurd (false≢true e)
 same_service_is (Reg a) (Txn b) e = absurd (false≢true e)
 
-abbrev key_with : ServiceId → ℕ → Key
+abbrev pub key_with : ServiceId → ℕ → Key
 key_with service index = record { service = service; index = index }
 
 same_key_is : (a b : Key) → same_key a b ≡ true → a ≡ b

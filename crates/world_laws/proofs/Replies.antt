@@ -65,17 +65,17 @@ sound_meets net m f h k z l =
     subst (λ (n : ℕ). IsSound k (message_at (meets net m f) k) (message_at (meets net m f) n)) (sym j)
     (sound_same k (message_at net k) (message_at net old) (message_at (meets net m f) k) (message_at (meets net m f) old) e (meets_body net m f k) (meets_envelope net m f old) (meets_body net m f old) (h k z (grind (arith, looks, l))))
 
-old_message : (net : List Message) (x : Message) (k : ℕ) → k < length net → message_at (net ++ x ∷ []) k ≡ message_at net k
+pub old_message : (net : List Message) (x : Message) (k : ℕ) → k < length net → message_at (net ++ x ∷ []) k ≡ message_at net k
 old_message net x k l = grind (arith, looks, l)
 
-new_message : (net : List Message) (x : Message) → message_at (net ++ x ∷ []) (length net) ≡ x
+pub new_message : (net : List Message) (x : Message) → message_at (net ++ x ∷ []) (length net) ≡ x
 new_message net x = grind (arith, looks)
 
-place : (net : List Message) (x : Message) (k : ℕ) → k < length (net ++ x ∷ []) → (k < length net) ⊎ (k ≡ length net)
+pub place : (net : List Message) (x : Message) (k : ℕ) → k < length (net ++ x ∷ []) → (k < length net) ⊎ (k ≡ length net)
 place net x k l = grind (arith, looks, l)
 
 -- an exchange is no later than its message
-exchange_there : (net : List Message) → Exchanges net → (k : ℕ) → 0 < k → k < length net → (message_at net k).envelope.exchange ≤ k
+pub exchange_there : (net : List Message) → Exchanges net → (k : ℕ) → 0 < k → k < length net → (message_at net k).envelope.exchange ≤ k
 exchange_there net h k z l = by_body (is_request (message_at net k).body) refl
   where
     by_body : (b : Bool) → is_request (message_at net k).body ≡ b → (message_at net k).envelope.exchange ≤ k

@@ -1,0 +1,570 @@
+-- All that stands in a state of a run was stored: what replicas hold and show, what contexts depend on, and
+-- what rounds hear and store.
+use Rattle.std.proofs.Common.{◌≡◌, ℕ, zero, suc, ◌<◌, ◌≤◌, Bool, true, false, List, [], ◌∷◌, ◌++◌, All, map, length, get_or, Option, Some, None, refl, ap, sym, ◌∙◌, subst, arith}
+use Rattle.std.specs.Prelude.{⊤}
+use Rattle.std.proofs.Math.ListN.{set}
+use Rattle.std.proofs.lemmas.Bool.{cond_both}
+use Rattle.std.proofs.lemmas.List.Elements.{All-cons, All-nil, All-head, All-set, All-push, All-map, All-weaker}
+use Rattle.truetime.specs.Reading.{Reading}
+use Rattle.rss_names.specs.declared.attempt.Attempt.{Attempt}
+use Rattle.rss_names.specs.declared.service.Key.{Key}
+use Rattle.rss_names.specs.declared.service.ServiceId.{ServiceId}
+use Rattle.rss_names.specs.declared.service.Target.{Target}
+use Rattle.rss_names.specs.declared.service.Target.TheVariants.{Shard, Replica}
+use Rattle.rss_names.specs.Services.{same_service}
+use Rattle.causal_context.specs.declared.dep.Dep.{Dep}
+use Rattle.causal_context.specs.Deps.{deps_of, given_dep}
+use Rattle.pipeline_lang.specs.declared.config.Config.{Config}
+use Rattle.pipeline_lang.specs.declared.script.Statement.{Statement}
+use Rattle.pipeline_lang.specs.declared.script.Statement.TheVariants as statement
+use Rattle.pipeline_lang.specs.Config.{statement_at}
+use Rattle.rss_model.specs.CallStatement.{op_of_statement}
+use Rattle.rss_model.specs.declared.op.Op.{Op}
+use Rattle.rss_model.specs.declared.op.Op.TheVariants as op
+use Rattle.rss_wire.specs.Messages.{message_at}
+use Rattle.rss_wire.specs.declared.message.Body.TheVariants as body
+use Rattle.rss_wire.specs.declared.message.Message.{Message}
+use Rattle.rss_wire.specs.declared.messages.Outcome.{Outcome}
+use Rattle.rss_wire.specs.declared.messages.RegReply.{RegReply}
+use Rattle.rss_wire.specs.declared.messages.Reply.{Reply}
+use Rattle.rss_wire.specs.declared.messages.Reply.TheVariants as reply
+use Rattle.rss_wire.specs.declared.messages.Request.{Request}
+use Rattle.rss_wire.specs.declared.messages.Request.TheVariants as request
+use Rattle.rss_tables.specs.Lines.{tells_decision}
+use Rattle.rss_tables.specs.Outs.{Out}
+use Rattle.rss_tables.specs.RegisterSession.{RegSession, phase_request, session_after, reached, reply_cell, read_end, read_dep, found_cell}
+use Rattle.rss_tables.specs.Round.{Round, was_heard, hears, is_reached, greatest_heard, is_agreed}
+use Rattle.rss_tables.specs.declared.register_session.RegEnd.{RegEnd}
+use Rattle.rss_tables.specs.declared.register_session.RegEnd.TheVariants as ends
+use Rattle.rss_tables.specs.declared.register_session.RegPhase.{RegPhase}
+use Rattle.rss_tables.specs.declared.register_session.RegPhase.TheVariants as phase
+use Rattle.rss_tables.specs.declared.register_session.RegWork.{RegWork}
+use Rattle.rss_tables.specs.declared.register_session.RegWork.TheVariants as work
+use Rattle.rss_machine.specs.Calls.{session_for}
+use Rattle.rss_machine.specs.Effect.{stepped}
+use Rattle.rss_machine.specs.Moves.{ticks, sends_one, sends, session_without, serves_replica, notes_served, listens, plans_stub}
+use Rattle.rss_machine.specs.Refusal.{refusal}
+use Rattle.rss_machine.specs.Run.{run, run_from}
+use Rattle.rss_machine.specs.Session.{Session}
+use Rattle.rss_machine.specs.State.{State, Owner, start, owner_at, no_owner, stage_at, opening_owner}
+use Rattle.rss_machine.specs.declared.session.OwnerKind.{OwnerKind}
+use Rattle.rss_machine.specs.declared.session.OwnerKind.TheVariants as kind
+use Rattle.rss_machine.specs.declared.session.Session.TheVariants as session
+use Rattle.rss_machine.specs.declared.step.Step.{Step}
+use Rattle.world_laws.proofs.Doings.{Changed, Heard, Beginning, calls, fences, Resting, plans, past, fixed, cleared, Working, owes_nothing, is_past, enters_own, Leaving, waits, fixes_work, fixes_own, asks_register, stamps_register, begins_snapshot, begins_txn, fence_done, stub_done, ShardTurning, txn_heard, txn_woken, txn_passed, snap_heard, snap_woken, Doing, listens_one, fix_hears, fix_reached, register_hears, register_stores, register_reached, read_ends, write_ends, txn_ends, snap_ends, counts_one, cuts_one, is_closed, forgets_all, turns, stub_asks}
+use Rattle.std.proofs.lemmas.Bool.{false≢true}
+use Rattle.world_laws.proofs.Looks.{looks, some_is, none_is_not}
+use Rattle.world_laws.proofs.OwnerWalk.{OwnerKeeps, owner_walk}
+use Rattle.world_laws.proofs.Runs.{passes, run_rest, run_none}
+use Rattle.world_laws.proofs.Sent.{SessionOut, RoundOut, ToShard, to_shard, IsTold, decision_outs, leaving_outs, doing_outs, sends_each, SentAll, sent_meets, sent_asks, sent_answers}
+use Rattle.world_laws.proofs.SessionWalk.{session_at, IsAgain}
+use Rattle.world_laws.proofs.StoreWalk.{SameStores}
+use Rattle.world_laws.proofs.Runs.{run_keeps}
+use Rattle.world_laws.proofs.Replies.{Sound, sound_keeps, sound_start}
+use Rattle.world_laws.proofs.Stacked.{OwnerKeepsUnder, stacked, store_owner, sent_before}
+use Rattle.world_laws.proofs.Sent.{sent_none}
+use Rattle.std.proofs.Common.{◌-◌, ◌⊎◌, inl, inr}
+use Rattle.std.specs.Prelude.{◌==◌, if◌then◌else◌}
+use Rattle.std.proofs.lemmas.Bool.{true≢false, eqb-true}
+use Rattle.std.proofs.lemmas.List.{get_or-set_same}
+use Rattle.carstamps.specs.Stamp.{next_stamp}
+use Rattle.rss_wire.specs.declared.envelope.Envelope.{Envelope}
+use Rattle.rss_wire.specs.declared.message.Fate.{Fate}
+use Rattle.rss_wire.specs.declared.message.Fate.TheVariants.{Pending}
+use Rattle.rss_wire.specs.Messages.{meets, asks, request_envelope, same_target}
+use Rattle.rss_tables.specs.Outs.{slot_count, slot_replica, line_slot}
+use Rattle.rss_tables.specs.RegisterSession.{phase_end}
+use Rattle.rss_tables.specs.Works.{Works, planned, plan_all, no_works}
+use Rattle.rss_machine.specs.Effect.{opens_round, least_shard}
+use Rattle.rss_machine.specs.Moves.{round_without}
+use Rattle.rss_machine.specs.Slots.{slot_in, slot_from, with_current, without_target, unless_with}
+use Rattle.rss_machine.specs.State.{no_currents}
+use Rattle.world_laws.specs.Exchanges.{Fits, Exchanges}
+use Rattle.world_laws.proofs.Doings.{turned, listened, fix_session}
+use Rattle.world_laws.proofs.Looks.{get_or_set, get_or_append, get_or_one, get_or_repeat, get_or_past, some_is_not}
+use Rattle.world_laws.proofs.OwnerWalk.{is_busy, busy_there}
+use Rattle.world_laws.proofs.Properly.{after-stays}
+use Rattle.world_laws.proofs.Replies.{meets_envelope, meets_body}
+use Rattle.world_laws.proofs.RequestsProper.{sends_same}
+use Rattle.world_laws.proofs.Sent.{round_outs}
+use Rattle.world_laws.proofs.Stacked.{SentBefore}
+use Rattle.reg_laws.specs.Awaited.{IsAsked, IsAwaited, CurrentsAwaited, IsOwnReply, IsRound, RepliesAreOwn}
+use Rattle.std.proofs.Math.ListN.{length-set}
+use Rattle.std.proofs.lemmas.List.Elements.{All-tail, All-replicate}
+use Rattle.std.proofs.lemmas.Bool.{and_parts, false≢true}
+use Rattle.std.specs.Prelude.{replicate, ◌&&◌}
+use Rattle.std.specs.List.{list_all}
+use Rattle.carstamps.specs.declared.carstamp.Carstamp.{Carstamp}
+use Rattle.carstamps.specs.Stamp.{stamp_lt}
+use Rattle.rss_names.specs.declared.service.ServiceId.TheVariants.{Txn, Reg}
+use Rattle.pipeline_lang.specs.declared.config.ServiceDef.{ServiceDef}
+use Rattle.rss_wire.specs.declared.message.Body.{Body}
+use Rattle.rss_wire.specs.Messages.{answers, reply_envelope}
+use Rattle.rss_tables.specs.RegisterSession.{work_key, first_phase}
+use Rattle.rss_tables.specs.ReplicaRow.{held_at, dep_cell, opening_cell, accept, accept_all, replica_after, replica_reply}
+use Rattle.rss_tables.specs.ShardRow.{shard_reply}
+use Rattle.rss_machine.specs.Moves.{marks_message, serves_shard}
+use Rattle.rss_machine.specs.Session.{service_of}
+use Rattle.rss_machine.specs.State.{service_index, cells_at, replicas_at, shard_at, replicas_of_services, replicas_before, opening_replicas}
+use Rattle.world_laws.specs.Contexts.{AllDeps}
+use Rattle.world_laws.specs.Proper.{registers_of, are_kept_by, is_proper_body}
+use Rattle.world_laws.specs.Registers.{IsRegister, NamesRegisters}
+use Rattle.world_laws.proofs.Contexts.{deps_weaker, at_place, of_hold, copy_holds, set_copies, deps_start}
+use Rattle.world_laws.proofs.FileRegisters.{same_number}
+use Rattle.world_laws.proofs.Marked.{key_with, same_service_is}
+use Rattle.world_laws.proofs.Named.{Named, RequestOn}
+use Rattle.world_laws.proofs.Replies.{place, old_message, new_message, exchange_there}
+use Rattle.world_laws.proofs.Sent.{sent_weaker}
+use Rattle.world_laws.proofs.StoreWalk.{Serves}
+use Rattle.reg_laws.specs.Stored.{WasStored, IsValid, DepIsValid, HoldsStored}
+use Rattle.reg_laws.proofs.Awaits.{Awaiting, set_there, nobody_sends, beginning_idle}
+use Rattle.reg_laws.proofs.Base.{Known, KnownAt, sound_of, named_of, fine_of, at_rest, known_run}
+use Rattle.reg_laws.proofs.Hearing.{session_valid, leaving_valid, working_valid, resting_valid, doing_valid, new_valid}
+use Rattle.reg_laws.proofs.Valid.{Grows, grows_more, grows_meets, valid_grows, request_grows, work_deps, asks_about, RoundValid, SessionValid, OwnerValid, FixValid, RequestValid, RepliesValid, ReplicasValid, ValidIn, Valid, valid_more}
+
+-- what a phase asks to store was stored
+phase_valid : (net : List Message) (r : RegSession) (q : Request) → All (DepIsValid net) (work_deps r.work) → phase_request r.call r.work r.phase ≡ Some q → FixValid net q
+phase_valid net r q k a = by_work r.work r.phase k a
+  where
+    by_work : (w : RegWork) (p : RegPhase) → All (DepIsValid net) (work_deps w) → phase_request r.call w p ≡ Some q → FixValid net q
+    by_work (work.Fix deps) phase.Fixing k a = subst (FixValid net) (some_is (request.Fix deps) q a) k
+    by_work (work.Fix deps) phase.Asking k a = absurd (none_is_not q a)
+    by_work (work.Fix deps) phase.Stamping k a = absurd (none_is_not q a)
+    by_work (work.Fix deps) (phase.Storing stamp) k a = absurd (none_is_not q a)
+    by_work (work.Fix deps) (phase.Done end) k a = absurd (none_is_not q a)
+    by_work (work.Read key) phase.Fixing k a = absurd (none_is_not q a)
+    by_work (work.Read key) phase.Asking k a = subst (FixValid net) (some_is (request.Ask key) q a) tt
+    by_work (work.Read key) phase.Stamping k a = absurd (none_is_not q a)
+    by_work (work.Read key) (phase.Storing stamp) k a = absurd (none_is_not q a)
+    by_work (work.Read key) (phase.Done end) k a = absurd (none_is_not q a)
+    by_work (work.Write key value) phase.Fixing k a = absurd (none_is_not q a)
+    by_work (work.Write key value) phase.Asking k a = absurd (none_is_not q a)
+    by_work (work.Write key value) phase.Stamping k a = subst (FixValid net) (some_is (request.Stamp key) q a) tt
+    by_work (work.Write key value) (phase.Storing stamp) k a = subst (FixValid net) (some_is (request.Store key value stamp r.call) q a) tt
+    by_work (work.Write key value) (phase.Done end) k a = absurd (none_is_not q a)
+
+round_valid_out : (net : List Message) (o : ℕ) (r : RegSession) (out : Out) → RoundValid net r → RoundOut r out → RequestValid net o out.target out.request
+round_valid_out net o r out h d = subst (λ (t : Target). RequestValid net o t out.request) (sym d.target) (phase_valid net r out.request h.fixes d.asked)
+
+shard_valid_out : (net : List Message) (o : ℕ) (target : Target) (r : Request) → to_shard target r ≡ true → RequestValid net o target r
+shard_valid_out net o (Shard n) r e = tt
+shard_valid_out net o (Replica service replica) r e = absurd (false≢true e)
+
+out_valid : (net : List Message) (o : ℕ) (x : Session) (out : Out) → SessionValid net x → SessionOut x out → RequestValid net o out.target out.request
+out_valid net o (session.Fixing r) out h d = round_valid_out net o r out h d
+out_valid net o (session.Register r) out h d = round_valid_out net o r out h d
+out_valid net o session.Idle out h d = shard_valid_out net o out.target out.request d
+out_valid net o (session.Transaction t) out h d = shard_valid_out net o out.target out.request d
+out_valid net o (session.Snapshot t) out h d = shard_valid_out net o out.target out.request d
+out_valid net o (session.Settling attempt shards) out h d = shard_valid_out net o out.target out.request d
+
+-- replies stay what they are where one message more is sent, which is sound
+replies_stay : (net sent : List Message) (x : Message) → Exchanges sent → RepliesValid net sent →
+    ((value writer replica : ℕ) (stamp : Carstamp) (service : ServiceId) (q : Request) (key : Key) → x.envelope.target ≡ Replica service replica → x.body ≡ body.Reply (reply.Held value stamp writer) → (message_at (sent ++ x ∷ []) x.envelope.exchange).body ≡ body.Request q → asks_about q ≡ Some key → IsValid net key (record { value = value; stamp = stamp; writer = writer })) →
+    RepliesValid net (sent ++ x ∷ [])
+replies_stay net sent x g h f = record { each = each }
+  where
+    each : (m value writer replica : ℕ) (stamp : Carstamp) (service : ServiceId) (q : Request) (key : Key) → 0 < m → m < length (sent ++ x ∷ []) → (message_at (sent ++ x ∷ []) m).envelope.target ≡ Replica service replica → (message_at (sent ++ x ∷ []) m).body ≡ body.Reply (reply.Held value stamp writer)
+        → (message_at (sent ++ x ∷ []) (message_at (sent ++ x ∷ []) m).envelope.exchange).body ≡ body.Request q → asks_about q ≡ Some key → IsValid net key (record { value = value; stamp = stamp; writer = writer })
+    each m value writer replica stamp service q key z l t b a e = by_place (place sent x m l)
+      where
+        by_place : (m < length sent) ⊎ (m ≡ length sent) → IsValid net key (record { value = value; stamp = stamp; writer = writer })
+        by_place (inl i) =
+            let y : message_at (sent ++ x ∷ []) m ≡ message_at sent m = old_message sent x m i in
+            let j : (message_at sent m).envelope.exchange < length sent = let k = exchange_there sent g m z i in omega (arith, k, i) in
+            let n : message_at (sent ++ x ∷ []) (message_at sent m).envelope.exchange ≡ message_at sent (message_at sent m).envelope.exchange = old_message sent x _ j in
+            h.each m value writer replica stamp service q key z i
+            (sym (ap (λ (v : Message). v.envelope.target) y) ∙ t) (sym (ap (λ (v : Message). v.body) y) ∙ b)
+            (sym (ap (λ (v : Message). v.body) n) ∙ (sym (ap (λ (v : Message). (message_at (sent ++ x ∷ []) v.envelope.exchange).body) y) ∙ a)) e
+        by_place (inr i) =
+            let y : message_at (sent ++ x ∷ []) m ≡ x = ap (λ (n : ℕ). message_at (sent ++ x ∷ []) n) i ∙ new_message sent x in
+            f value writer replica stamp service q key
+            (sym (ap (λ (v : Message). v.envelope.target) y) ∙ t) (sym (ap (λ (v : Message). v.body) y) ∙ b)
+            (sym (ap (λ (v : Message). (message_at (sent ++ x ∷ []) v.envelope.exchange).body) y) ∙ a) e
+
+replies_meet : (net sent : List Message) (n : ℕ) (f : Fate) → RepliesValid net sent → RepliesValid net (meets sent n f)
+replies_meet net sent n f h = record {
+  each = λ m value writer replica stamp service q key z l t b a e.
+      h.each m value writer replica stamp service q key z (grind (arith, looks, l)) (sym (ap (λ (v : Envelope). v.target) (meets_envelope sent n f m)) ∙ t) (sym (meets_body sent n f m) ∙ b)
+      (sym (meets_body sent n f _) ∙ (sym (ap (λ (v : Envelope). (message_at (meets sent n f) v.exchange).body) (meets_envelope sent n f m)) ∙ a)) e;
+}
+
+-- a request is no reply
+request_not_reply : (q : Request) (r : Reply) → body.Request q ≡ body.Reply r → ⊥
+request_not_reply q r e = cc
+
+-- requests that are sent
+valid_one : (c : Config) (o : ℕ) (s : State) (out : Out) → Sound s → RequestValid s.net o out.target out.request → Valid c s → Valid c (sends_one s o out)
+valid_one c o s out g q h = record {
+  owners = All-set (OwnerValid net) s.owners o _ (session_valid c net s o k) k.owners;
+  deps = record { stages = k.deps.stages; pipes = k.deps.pipes; copies = set_copies (DepIsValid net) s o _ refl k.deps };
+  messages = sent_asks (RequestValid net) s.net o _ out.target out.request (request_grows s.net net grown o out.target out.request q) k.messages;
+  replies = replies_stay net s.net _ g.sound k.replies (λ value writer replica stamp service p key t b a e. absurd (request_not_reply out.request _ b));
+  replicas = k.replicas;
+}
+  where
+    net : List Message
+    net = asks s.net o (owner_at s o).stage out.target out.request
+
+    grown : Grows s.net net
+    grown = grows_more s.net _
+
+    k : ValidIn c net s
+    k = valid_more c s.net net s grown h
+
+valid_sends : (c : Config) (o : ℕ) (x : Session) (outs : List Out) (s : State) → All (SessionOut x) outs → session_at s o ≡ x → Sound s → o < length s.owners → Valid c s → Valid c (sends s o outs)
+valid_sends c o x outs s a e g i h = (sends_each (λ t. (Sound t × Valid c t) × (session_at t o ≡ x)) (SessionOut x) o one outs s a ((g, h), e)).0.1
+  where
+    one : (t : State) (out : Out) → SessionOut x out → (Sound t × Valid c t) × (session_at t o ≡ x) → (Sound (sends_one t o out) × Valid c (sends_one t o out)) × (session_at (sends_one t o out) o ≡ x)
+    one t out d p = ((sound_keeps.sends t o out p.0.0, valid_one c o t out p.0.0 (out_valid t.net o x out (subst (SessionValid t.net) p.1 (session_valid c t.net t o p.0.1)) d) p.0.1), sends_same t o out o ∙ p.1)
+
+-- owners, stages and pipes change
+valid_changed : (c : Config) (new : List Dep) (s t : State) (owners : List Owner) → Changed new owners s t → All (DepIsValid s.net) new → All (OwnerValid s.net) owners → Valid c s → Valid c t
+valid_changed c new s t owners d a w h =
+    subst (λ (net : List Message). ValidIn c net t) (sym d.stores.net) (record {
+      owners = subst (All (OwnerValid s.net)) (sym d.owned) w;
+      deps = d.deps (DepIsValid s.net) a h.deps;
+      messages = subst (SentAll (RequestValid s.net)) (sym d.stores.net) h.messages;
+      replies = subst (RepliesValid s.net) (sym d.stores.net) h.replies;
+      replicas = subst (ReplicasValid c s.net) (sym d.stores.replicas) h.replicas;
+    })
+
+-- what a replica holds of a register, after it has accepted
+accept_holds : (G : RegReply → Type 0) (cells : List RegReply) (other key : Key) (cell : RegReply) → G (held_at cells key) → (other.index ≡ key.index → G cell) → G (held_at (accept cells other cell) key)
+accept_holds G cells other key cell h f = cond_both (stamp_lt (held_at cells other).stamp cell.stamp) (set cells other.index cell) cells (λ (xs : List RegReply). G (held_at xs key)) (λ t. by_place (get_or_set cells other.index cell key.index opening_cell)) (λ t. h)
+  where
+    by_place : ((get_or (set cells other.index cell) key.index opening_cell ≡ cell) × (key.index ≡ other.index) × (other.index < length cells)) ⊎ ((get_or (set cells other.index cell) key.index opening_cell ≡ get_or cells key.index opening_cell) × ((key.index ≡ other.index → ⊥) ⊎ (length cells ≤ key.index))) → G (held_at (set cells other.index cell) key)
+    by_place (inl e) = subst G (sym e.0) (f (sym e.1))
+    by_place (inr e) = subst G (sym e.0) h
+
+abbrev Fitting : (RegReply → Type 0) → Key → Dep → Type 0
+Fitting G key dep = dep.key.index ≡ key.index → G (dep_cell dep)
+
+accept_all_holds : (G : RegReply → Type 0) (key : Key) (deps : List Dep) (cells : List RegReply) → G (held_at cells key) → All (Fitting G key) deps → G (held_at (accept_all cells deps) key)
+accept_all_holds G key [] cells h a = h
+accept_all_holds G key (dep ∷ deps) cells h a =
+    accept_all_holds G key deps (accept cells dep.key (dep_cell dep)) (accept_holds G cells dep.key key (dep_cell dep) h (All-head (Fitting G key) dep deps a)) (All-tail (Fitting G key) dep deps a)
+
+-- what a request brings of a register
+abbrev Brings : (RegReply → Type 0) → Key → Request → Type 0
+Brings G key (request.Store other value stamp writer) = other.index ≡ key.index → G (record { value = value; stamp = stamp; writer = writer })
+Brings G key (request.Fix deps) = All (Fitting G key) deps
+Brings G key (request.Ask other) = ⊤
+Brings G key (request.Stamp other) = ⊤
+Brings G key (request.Lock attempt coordinator reads writes) = ⊤
+Brings G key (request.Prepare attempt least earliest_end writes) = ⊤
+Brings G key (request.Decide attempt commit time) = ⊤
+Brings G key (request.Commit attempt commit_time) = ⊤
+Brings G key (request.Abort attempt) = ⊤
+Brings G key (request.Inquire attempt) = ⊤
+Brings G key (request.Release attempt time last) = ⊤
+Brings G key (request.Snapshot read_time least keys skip) = ⊤
+
+after_holds : (G : RegReply → Type 0) (key : Key) (cells : List RegReply) (r : Request) → G (held_at cells key) → Brings G key r → G (held_at (replica_after cells r) key)
+unfolding replica_after
+after_holds G key cells (request.Store other value stamp writer) h f = accept_holds G cells other key (record { value = value; stamp = stamp; writer = writer }) h f
+after_holds G key cells (request.Fix deps) h f = accept_all_holds G key deps cells h f
+after_holds G key cells (request.Ask other) h f = h
+after_holds G key cells (request.Stamp other) h f = h
+after_holds G key cells (request.Lock attempt coordinator reads writes) h f = h
+after_holds G key cells (request.Prepare attempt least earliest_end writes) h f = h
+after_holds G key cells (request.Decide attempt commit time) h f = h
+after_holds G key cells (request.Commit attempt commit_time) h f = h
+after_holds G key cells (request.Abort attempt) h f = h
+after_holds G key cells (request.Inquire attempt) h f = h
+after_holds G key cells (request.Release attempt time last) h f = h
+after_holds G key cells (request.Snapshot read_time least keys skip) h f = h
+
+-- registers of the file of one number are the same
+same_register : (c : Config) (a b : Key) → IsRegister c a → IsRegister c b → a.index ≡ b.index → a ≡ b
+same_register c a b g h e =
+    let f : a.service ≡ b.service = same_number c a b g h e in
+    let p : a ≡ key_with b.service a.index = ap (λ (x : ServiceId). key_with x a.index) f in
+    let q : key_with b.service a.index ≡ b = ap (λ (n : ℕ). key_with b.service n) e in
+    p ∙ q
+
+-- a request that a replica serves brings what was stored
+brings : (c : Config) (net : List Message) (m replica : ℕ) (id : ServiceId) (key : Key) (r : Request) → m < length net → (message_at net m).envelope.target ≡ Replica id replica → (message_at net m).body ≡ body.Request r → IsRegister c key → All (IsRegister c) (registers_of r) → FixValid net r → Brings (IsValid net key) key r
+brings c net m replica id key (request.Store other value stamp writer) l t b g k v =
+    λ e. inr (record { number = m; sent = l; service = id; replica = replica; target = t; says = b ∙ ap (λ (x : Key). body.Request (request.Store x value stamp writer)) (same_register c other key (All-head (IsRegister c) other [] k) g e) })
+brings c net m replica id key (request.Fix deps) l t b g k v = fitting deps k v
+  where
+    fitting : (deps : List Dep) → All (IsRegister c) (map (λ (dep : Dep). dep.key) deps) → All (DepIsValid net) deps → All (Fitting (IsValid net key) key) deps
+    fitting [] k v = All-nil (Fitting (IsValid net key) key)
+    fitting (dep ∷ deps) k v =
+        All-cons (Fitting (IsValid net key) key) dep deps
+        (λ e. subst (λ (x : Key). IsValid net x (dep_cell dep)) (same_register c dep.key key (All-head (IsRegister c) dep.key (map (λ (d : Dep). d.key) deps) k) g e) (All-head (DepIsValid net) dep deps v))
+        (fitting deps (All-tail (IsRegister c) dep.key (map (λ (d : Dep). d.key) deps) k) (All-tail (DepIsValid net) dep deps v))
+brings c net m replica id key (request.Ask other) l t b g k v = tt
+brings c net m replica id key (request.Stamp other) l t b g k v = tt
+brings c net m replica id key (request.Lock attempt coordinator reads writes) l t b g k v = tt
+brings c net m replica id key (request.Prepare attempt least earliest_end writes) l t b g k v = tt
+brings c net m replica id key (request.Decide attempt commit time) l t b g k v = tt
+brings c net m replica id key (request.Commit attempt commit_time) l t b g k v = tt
+brings c net m replica id key (request.Abort attempt) l t b g k v = tt
+brings c net m replica id key (request.Inquire attempt) l t b g k v = tt
+brings c net m replica id key (request.Release attempt time last) l t b g k v = tt
+brings c net m replica id key (request.Snapshot read_time least keys skip) l t b g k v = tt
+
+-- one replica of one service in the place of what it was
+placed : (G : List RegReply → Type 0) (all : List (List (List RegReply))) (x i : ℕ) (cells : List RegReply) (y j : ℕ) → G (get_or (get_or all y []) j []) → (y ≡ x → j ≡ i → G cells) → G (get_or (get_or (set all x (set (get_or all x []) i cells)) y []) j [])
+placed G all x i cells y j h f = by_service (get_or_set all x (set (get_or all x []) i cells) y [])
+  where
+    by_service : ((get_or (set all x (set (get_or all x []) i cells)) y [] ≡ set (get_or all x []) i cells) × (y ≡ x) × (x < length all)) ⊎ ((get_or (set all x (set (get_or all x []) i cells)) y [] ≡ get_or all y []) × ((y ≡ x → ⊥) ⊎ (length all ≤ y))) → G (get_or (get_or (set all x (set (get_or all x []) i cells)) y []) j [])
+    by_service (inr e) = subst (λ (rows : List (List RegReply)). G (get_or rows j [])) (sym e.0) h
+    by_service (inl e) = subst (λ (rows : List (List RegReply)). G (get_or rows j [])) (sym e.0) (by_replica (get_or_set (get_or all x []) i cells j []))
+      where
+        by_replica : ((get_or (set (get_or all x []) i cells) j [] ≡ cells) × (j ≡ i) × (i < length (get_or all x []))) ⊎ ((get_or (set (get_or all x []) i cells) j [] ≡ get_or (get_or all x []) j []) × ((j ≡ i → ⊥) ⊎ (length (get_or all x []) ≤ j))) → G (get_or (set (get_or all x []) i cells) j [])
+        by_replica (inl d) = subst G (sym d.0) (f e.1 d.1)
+        by_replica (inr d) = subst G (sym d.0) (subst (λ (n : ℕ). G (get_or (get_or all n []) j [])) e.1 h)
+
+-- what a replica shows it holds
+shown_held : (cells : List RegReply) (q : Request) (key : Key) (value writer : ℕ) (stamp : Carstamp) → asks_about q ≡ Some key → replica_reply cells q ≡ reply.Held value stamp writer → held_at cells key ≡ record { value = value; stamp = stamp; writer = writer }
+unfolding replica_reply
+shown_held cells (request.Ask k) key value writer stamp a e = ap (λ (x : Key). held_at cells x) (sym (some_is k key a)) ∙ cell_shown (held_at cells k) value writer stamp e
+  where
+    cell_shown : (cell : RegReply) (value writer : ℕ) (stamp : Carstamp) → reply.Held cell.value cell.stamp cell.writer ≡ reply.Held value stamp writer → cell ≡ record { value = value; stamp = stamp; writer = writer }
+    cell_shown cell value writer stamp e = ap reply_cell e
+shown_held cells (request.Stamp k) key value writer stamp a e = ap (λ (x : Key). held_at cells x) (sym (some_is k key a)) ∙ cell_shown (held_at cells k) value writer stamp e
+  where
+    cell_shown : (cell : RegReply) (value writer : ℕ) (stamp : Carstamp) → reply.Held cell.value cell.stamp cell.writer ≡ reply.Held value stamp writer → cell ≡ record { value = value; stamp = stamp; writer = writer }
+    cell_shown cell value writer stamp e = ap reply_cell e
+shown_held cells (request.Store k v z w) key value writer stamp a e = absurd (stored_not_held value writer stamp e)
+  where
+    stored_not_held : (value writer : ℕ) (stamp : Carstamp) → reply.Stored ≡ reply.Held value stamp writer → ⊥
+    stored_not_held value writer stamp e = cc
+shown_held cells (request.Fix deps) key value writer stamp a e = absurd (none_is_not key a)
+shown_held cells (request.Lock attempt coordinator reads writes) key value writer stamp a e = absurd (none_is_not key a)
+shown_held cells (request.Prepare attempt least earliest_end writes) key value writer stamp a e = absurd (none_is_not key a)
+shown_held cells (request.Decide attempt commit time) key value writer stamp a e = absurd (none_is_not key a)
+shown_held cells (request.Commit attempt commit_time) key value writer stamp a e = absurd (none_is_not key a)
+shown_held cells (request.Abort attempt) key value writer stamp a e = absurd (none_is_not key a)
+shown_held cells (request.Inquire attempt) key value writer stamp a e = absurd (none_is_not key a)
+shown_held cells (request.Release attempt time last) key value writer stamp a e = absurd (none_is_not key a)
+shown_held cells (request.Snapshot read_time least keys skip) key value writer stamp a e = absurd (none_is_not key a)
+
+-- what a request asks about it names
+about_named : (Q : Key → Type 0) (q : Request) (key : Key) → asks_about q ≡ Some key → All Q (registers_of q) → Q key
+about_named Q (request.Ask k) key a h = subst Q (some_is k key a) (All-head Q k [] h)
+about_named Q (request.Stamp k) key a h = subst Q (some_is k key a) (All-head Q k [] h)
+about_named Q (request.Store k v z w) key a h = subst Q (some_is k key a) (All-head Q k [] h)
+about_named Q (request.Fix deps) key a h = absurd (none_is_not key a)
+about_named Q (request.Lock attempt coordinator reads writes) key a h = absurd (none_is_not key a)
+about_named Q (request.Prepare attempt least earliest_end writes) key a h = absurd (none_is_not key a)
+about_named Q (request.Decide attempt commit time) key a h = absurd (none_is_not key a)
+about_named Q (request.Commit attempt commit_time) key a h = absurd (none_is_not key a)
+about_named Q (request.Abort attempt) key a h = absurd (none_is_not key a)
+about_named Q (request.Inquire attempt) key a h = absurd (none_is_not key a)
+about_named Q (request.Release attempt time last) key a h = absurd (none_is_not key a)
+about_named Q (request.Snapshot read_time least keys skip) key a h = absurd (none_is_not key a)
+
+-- registers that are kept by a service, by the test and each by itself
+each_kept : (id : ServiceId) (keys : List Key) → are_kept_by id keys ≡ true → All (λ (k : Key). id ≡ k.service) keys
+unfolding are_kept_by
+each_kept id [] e = All-nil (λ (k : Key). id ≡ k.service)
+each_kept id (key ∷ keys) e =
+    let p = and_parts (same_service id key.service) (list_all (λ (k : Key). same_service id k.service) keys) e in
+    All-cons (λ (k : Key). id ≡ k.service) key keys (same_service_is id key.service p.0) (each_kept id keys p.1)
+
+-- a request that is served is of the file's registers, and of the replica's service
+record ServedWell (c : Config) (net : List Message) (id : ServiceId) (r : Request) : Type 0 where
+  registers : All (IsRegister c) (registers_of r)
+  kept : All (λ (k : Key). id ≡ k.service) (registers_of r)
+  fixes : FixValid net r
+
+served_well : (c : Config) (s : State) (m replica : ℕ) (id : ServiceId) (r : Request) → Serves s m r (Replica id replica) → Known c s → Valid c s → ServedWell c s.net id r
+served_well c s m replica id r d g h = record {
+  registers = subst (λ (t : Target). RequestOn (IsRegister c) (message_at s.net m).envelope.owner t r) d.to ((named_of c s g).messages.each m r d.asks);
+  kept = each_kept id (registers_of r) (subst (λ (t : Target). is_proper_body t (body.Request r) ≡ true) d.to (subst (λ (b : Body). is_proper_body (message_at s.net m).envelope.target b ≡ true) d.asks ((fine_of c s g).messages m)));
+  fixes = subst (λ (t : Target). RequestValid s.net (message_at s.net m).envelope.owner t r) d.to (h.messages.each m r d.asks);
+}
+
+-- a replica serves a request
+valid_serves : (c : Config) (s : State) (m replica : ℕ) (id : ServiceId) (r : Request) → Serves s m r (Replica id replica) → Known c s → Valid c s → Valid c (notes_served (serves_replica s m id replica r) (message_at s.net m).envelope.owner id r)
+valid_serves c s m replica id r d g h = record {
+  owners = All-set (OwnerValid net) s.owners o _ (session_valid c net s o k) k.owners;
+  deps = record { stages = k.deps.stages; pipes = k.deps.pipes; copies = set_copies (DepIsValid net) s o _ refl k.deps };
+  messages = sent_answers (RequestValid net) s.net m _ k.messages;
+  replies = replies_stay net s.net x (sound_of c s g).sound k.replies shown;
+  replicas = record {
+    each = λ key place i. placed (λ cells. IsValid net key (held_at cells key)) s.replicas (service_index id) (replica - 1) (replica_after (cells_at s id replica) r) (service_index key.service) place (k.replicas.each key place i)
+        (λ e f. valid_grows s.net net key _ grown (after_holds (IsValid s.net key) key (cells_at s id replica) r
+        (subst (λ (n : ℕ). IsValid s.net key (held_at (get_or (get_or s.replicas n []) (replica - 1) []) key)) e (subst (λ (j : ℕ). IsValid s.net key (held_at (get_or (get_or s.replicas (service_index key.service) []) j []) key)) f (h.replicas.each key place i)))
+        (brings c s.net m replica id key r d.sent d.to d.asks i well.registers well.fixes)));
+  };
+}
+  where
+    o : ℕ
+    o = (message_at s.net m).envelope.owner
+
+    x : Message
+    x = record { envelope = reply_envelope s.net m; body = body.Reply (replica_reply (cells_at s id replica) r); fate = Pending }
+
+    net : List Message
+    net = s.net ++ x ∷ []
+
+    grown : Grows s.net net
+    grown = grows_more s.net x
+
+    k : ValidIn c net s
+    k = valid_more c s.net net s grown h
+
+    well : ServedWell c s.net id r
+    well = served_well c s m replica id r d g h
+
+    reply_same : (a b : Reply) → body.Reply a ≡ body.Reply b → a ≡ b
+    reply_same a b e = cc
+
+    request_same : (a b : Request) → body.Request a ≡ body.Request b → a ≡ b
+    request_same a b e = cc
+
+    shown : (value writer place : ℕ) (stamp : Carstamp) (service : ServiceId) (q : Request) (key : Key) → x.envelope.target ≡ Replica service place → x.body ≡ body.Reply (reply.Held value stamp writer) → (message_at (s.net ++ x ∷ []) x.envelope.exchange).body ≡ body.Request q → asks_about q ≡ Some key → IsValid net key (record { value = value; stamp = stamp; writer = writer })
+    shown value writer place stamp service q key t b a e =
+        let same : r ≡ q = request_same r q (sym d.asks ∙ (sym (ap (λ (v : Message). v.body) (old_message s.net x m d.sent)) ∙ a)) in
+        let about : asks_about r ≡ Some key = ap asks_about same ∙ e in
+        let i : IsRegister c key = about_named (IsRegister c) r key about well.registers in
+        let j : id ≡ key.service = about_named (λ (v : Key). id ≡ v.service) r key about well.kept in
+        let held : held_at (cells_at s id replica) key ≡ record { value = value; stamp = stamp; writer = writer } = shown_held (cells_at s id replica) r key value writer stamp about (reply_same _ _ b) in
+        subst (IsValid net key) held (subst (λ (v : ServiceId). IsValid net key (held_at (get_or (get_or s.replicas (service_index v) []) (replica - 1) []) key)) (sym j) (k.replicas.each key (replica - 1) i))
+
+valid_shards : (c : Config) (s : State) (m shard latest : ℕ) (r : Request) → Serves s m r (Shard shard) → Known c s → Valid c s → Valid c (serves_shard s m shard latest r)
+valid_shards c s m shard latest r d g h = record {
+  owners = k.owners;
+  deps = record { stages = k.deps.stages; pipes = k.deps.pipes; copies = k.deps.copies };
+  messages = sent_answers (RequestValid net) s.net m _ k.messages;
+  replies = replies_stay net s.net x (sound_of c s g).sound k.replies (λ value writer place stamp service q key t b a e. absurd (shard_not_replica shard service place (sym d.to ∙ t)));
+  replicas = k.replicas;
+}
+  where
+    x : Message
+    x = record { envelope = reply_envelope s.net m; body = body.Reply (shard_reply (shard_at s shard) latest r); fate = Pending }
+
+    net : List Message
+    net = s.net ++ x ∷ []
+
+    k : ValidIn c net s
+    k = valid_more c s.net net s (grows_more s.net x) h
+
+    shard_not_replica : (n : ℕ) (service : ServiceId) (place : ℕ) → Shard n ≡ Replica service place → ⊥
+    shard_not_replica n service place e = cc
+
+valid_meets : (c : Config) (s : State) (m : ℕ) (f : Fate) → Valid c s → Valid c (marks_message s m f)
+valid_meets c s m f h =
+    let k = valid_more c s.net (meets s.net m f) s (grows_meets s.net m f) h in
+    record {
+      owners = k.owners;
+      deps = record { stages = k.deps.stages; pipes = k.deps.pipes; copies = k.deps.copies };
+      messages = sent_meets (RequestValid (meets s.net m f)) s.net m f k.messages;
+      replies = replies_meet (meets s.net m f) s.net m f k.replies;
+      replicas = k.replicas;
+    }
+
+valid_again : (c : Config) (s : State) (o exchange slot : ℕ) (target : Target) (r : Request) → IsAgain s o exchange slot target r → Sound s → Valid c s → RequestValid s.net o target r
+valid_again c s o exchange slot target r d g h =
+    let b = sent_before s o exchange slot target r g d in
+    subst (λ (t : Target). RequestValid s.net o t r) b.target_of (subst (λ (n : ℕ). RequestValid s.net n (message_at s.net exchange).envelope.target r) b.owner (h.messages.each exchange r d.asked))
+
+valid_own : (c : Config) (s t : State) (o : ℕ) (w : Owner) → Changed [] (set s.owners o w) s t → OwnerValid s.net w → Valid c s → Valid c t
+valid_own c s t o w d v h = valid_changed c [] s t (set s.owners o w) d (All-nil (DepIsValid s.net)) (All-set (OwnerValid s.net) s.owners o w v h.owners) h
+
+valid_settles : (c : Config) (s : State) (o slot : ℕ) (a : Attempt) (shards : List ℕ) (outcome : Outcome) → Sound s → Valid c s → Valid c (plans_stub (sends (listens s o slot) o (tells_decision a outcome shards)) o)
+valid_settles c s o slot a shards outcome g h = planned_valid t told
+  where
+    u : State
+    u = listens s o slot
+
+    t : State
+    t = sends u o (tells_decision a outcome shards)
+
+    listening : Valid c u
+    listening = record {
+      owners = All-set (OwnerValid s.net) s.owners o _ (session_valid c s.net s o h) h.owners;
+      deps = record { stages = h.deps.stages; pipes = h.deps.pipes; copies = set_copies (DepIsValid s.net) s o _ refl h.deps };
+      messages = h.messages;
+      replies = h.replies;
+      replicas = h.replicas;
+    }
+
+    one : (v : State) (out : Out) → IsTold out → Sound v × Valid c v → Sound (sends_one v o out) × Valid c (sends_one v o out)
+    one v out d p = (sound_keeps.sends v o out p.0, valid_one c o v out p.0 (shard_valid_out v.net o out.target out.request d.to) p.1)
+
+    told : Valid c t
+    told = (sends_each (λ v. Sound v × Valid c v) IsTold o one (tells_decision a outcome shards) u (decision_outs a outcome shards) (record { first = g.first; sound = g.sound }, listening)).1
+
+    planned_valid : (v : State) → Valid c v → Valid c (plans_stub v o)
+    planned_valid v p = record {
+      owners = All-set (OwnerValid v.net) v.owners o _ tt p.owners;
+      deps = record { stages = p.deps.stages; pipes = p.deps.pipes; copies = set_copies (DepIsValid v.net) v o _ refl p.deps };
+      messages = p.messages;
+      replies = p.replies;
+      replicas = p.replicas;
+    }
+
+sound_changed : (new : List Dep) (s t : State) (owners : List Owner) → Changed new owners s t → Sound s → Sound t
+sound_changed new s t owners d h = sound_keeps.others s t d.stores h
+
+pub valid_under : (c : Config) (at : Reading) → OwnerKeepsUnder c at (Known c) (KnownAt c) (Valid c) (λ s o. Valid c s)
+valid_under c at = record {
+  fates = λ s m f g h. valid_meets c s m f h;
+  shards = λ s m shard r d g h. valid_shards c s m shard at.latest r d g h;
+  replicas = λ s m id replica r d g h. valid_serves c s m replica id r d g h;
+  again = λ s o exchange slot target r d g h. valid_one c o s (record { slot = Some slot; target = target; request = r }) (sound_of c s g) (valid_again c s o exchange slot target r d (sound_of c s g) h) h;
+  stages = λ s t d g h. valid_changed c [] s t s.owners d (All-nil (DepIsValid s.net)) h.owners h;
+  dies = λ s t n u d g h. valid_changed c [] s t _ d (All-nil (DepIsValid s.net)) (All-push (OwnerValid s.net) s.owners _ h.owners tt) h;
+  begins = λ s t w b d g h. valid_changed c [] s t (s.owners ++ w ∷ []) d (All-nil (DepIsValid s.net)) (All-push (OwnerValid s.net) s.owners w h.owners (subst (SessionValid s.net) (sym (beginning_idle c s w b)) tt)) h;
+  rests = λ s t o w i b d g h. valid_own c s t o w d (resting_valid s o w s.net b) h;
+  settles = λ s o slot a shards outcome i e d g h. valid_settles c s o slot a shards outcome (sound_of c s g) h;
+  settled = λ s o g h. h;
+  works = λ s t o w i b d g h. valid_own c s t o w d (working_valid at s o w s.net b (session_valid c s.net s o h)) h;
+  leaves = λ s t o w outs i b d g h.
+      valid_sends c o w.session outs t (leaving_outs c at s o w outs b) (ap (λ (v : Owner). v.session) (set_there s t o w i d.owned)) (sound_changed [] s t (set s.owners o w) d (sound_of c s (at_rest c s o g))) (there s t o w i d.owned)
+      (valid_own c s t o w d (leaving_valid c at s o w outs b h) h);
+  does = λ s t o w outs new b d g h. doing_sends s t o w outs new b d g (valid_changed c new s t (set s.owners o w) d (new_valid c s o w outs new b h) (All-set (OwnerValid s.net) s.owners o w (doing_valid c s o w outs new b g h) h.owners) h);
+}
+  where
+    there : (s t : State) (o : ℕ) (w : Owner) → o < length s.owners → t.owners ≡ set s.owners o w → o < length t.owners
+    there s t o w i d = subst (λ (owners : List Owner). o < length owners) (sym d) (subst (λ (n : ℕ). o < n) (sym (length-set s.owners o w)) i)
+
+    doing_sends : (s t : State) (o : ℕ) (w : Owner) (outs : List Out) (new : List Dep) → Doing s o w outs new → Changed new (set s.owners o w) s t → Known c s → Valid c t → Valid c (sends t o outs)
+    doing_sends s t o w outs new b d g h = by_place (get_or_past s.owners o no_owner)
+      where
+        by_place : (o < length s.owners) ⊎ (owner_at s o ≡ no_owner) → Valid c (sends t o outs)
+        by_place (inl i) = valid_sends c o w.session outs t (doing_outs s o w outs new b) (ap (λ (v : Owner). v.session) (set_there s t o w i d.owned)) (sound_changed new s t (set s.owners o w) d (sound_of c s g)) (there s t o w i d.owned) h
+        by_place (inr e) = subst (λ (xs : List Out). Valid c (sends t o xs)) (sym (nobody_sends s o w outs new b e)) h
+
+-- before the first step replicas hold opening values
+before_cells : (registers : ℕ) (id : ServiceId) (n : ℕ) (services : List ServiceDef) (key : Key) (place i : ℕ) → ((j : ℕ) → held_at (get_or (get_or (replicas_of_services registers services) j []) place []) key ≡ opening_cell) → held_at (get_or (get_or (replicas_before id (opening_replicas registers n) (replicas_of_services registers services)) i []) place []) key ≡ opening_cell
+before_cells registers (Txn number) n services key place i h = h i
+before_cells registers (Reg number) n services key place (suc i) h = h i
+before_cells registers (Reg number) n services key place zero h = by_place (get_or_repeat n (replicate registers opening_cell) place []) (get_or_repeat registers opening_cell key.index opening_cell)
+  where
+    by_place : ((get_or (replicate n (replicate registers opening_cell)) place [] ≡ replicate registers opening_cell) × (place < n)) ⊎ ((get_or (replicate n (replicate registers opening_cell)) place [] ≡ []) × (n ≤ place)) → ((get_or (replicate registers opening_cell) key.index opening_cell ≡ opening_cell) × (key.index < registers)) ⊎ ((get_or (replicate registers opening_cell) key.index opening_cell ≡ opening_cell) × (registers ≤ key.index)) → held_at (get_or (replicate n (replicate registers opening_cell)) place []) key ≡ opening_cell
+    by_place (inl a) (inl b) = ap (λ (cells : List RegReply). held_at cells key) a.0 ∙ b.0
+    by_place (inl a) (inr b) = ap (λ (cells : List RegReply). held_at cells key) a.0 ∙ b.0
+    by_place (inr a) b = ap (λ (cells : List RegReply). held_at cells key) a.0
+
+pub start_cells : (registers : ℕ) (services : List ServiceDef) (key : Key) (place i : ℕ) → held_at (get_or (get_or (replicas_of_services registers services) i []) place []) key ≡ opening_cell
+start_cells registers [] key place i = refl
+start_cells registers (d ∷ services) key place i = before_cells registers d.id d.replicas services key place i (λ j. start_cells registers services key place j)
+
+pub valid_start : (c : Config) → Valid c (start c)
+valid_start c = record {
+  owners = All-cons (OwnerValid (start c).net) no_owner [] tt (All-nil (OwnerValid (start c).net));
+  deps = deps_start (DepIsValid (start c).net) c;
+  messages = sent_none (RequestValid (start c).net);
+  replies = record { each = λ m value writer replica stamp service q key z l t b a e. absurd (omega (arith, z, l)) };
+  replicas = record { each = λ key place i. inl (start_cells (length c.registers) c.services key place (service_index key.service)) };
+}
+
+pub valid_ticks : (c : Config) (s : State) (at : Reading) → Valid c s → Valid c (ticks s at)
+valid_ticks c s at h = record { owners = h.owners; deps = record { stages = h.deps.stages; pipes = h.deps.pipes; copies = h.deps.copies }; messages = h.messages; replies = h.replies; replicas = h.replicas }
+
+-- all that stands in a state of a run was stored
+pub holds_run : (c : Config) (steps : List Step) (s : State) → NamesRegisters c → run c steps ≡ Some s → HoldsStored c s
+holds_run c steps s n e =
+    let h = (known_run c n (Valid c) (λ t o. Valid c t) (valid_under c) (valid_ticks c) (valid_start c) steps s e).1 in
+    record {
+      replicas = λ key place i. h.replicas.each key place i;
+      dependencies = h.deps;
+      fixes = λ m replica service deps t b. subst (λ (x : Target). RequestValid s.net (message_at s.net m).envelope.owner x (request.Fix deps)) t (h.messages.each m (request.Fix deps) b);
+    }
