@@ -183,6 +183,7 @@ pub record RoundValid (net : List Message) (r : RegSession) : Type 0 where
   pub fixes : All (DepIsValid net) (work_deps r.work)
   pub cells : (key : Key) (cell : RegReply) (dep : Option Dep) → work_key r.work ≡ Some key → r.phase ≡ phase.Done (ends.Read cell dep) → IsValid net key cell
   pub left : All (DepIsValid net) (phase_deps r.phase)
+  pub above : (stamp : Carstamp) → r.phase ≡ phase.Storing stamp → 0 < stamp.number
 
 abbrev pub SessionValid : List Message → Session → Type 0
 SessionValid net (session.Fixing r) = RoundValid net r
@@ -195,12 +196,12 @@ SessionValid net (session.Settling attempt shards) = ⊤
 abbrev pub OwnerValid : List Message → Owner → Type 0
 OwnerValid net w = SessionValid net w.session
 
--- what a round of dependencies asks replicas to store was stored
+-- what a round of dependencies asks replicas to store was stored, and a call stores no opening stamp
 abbrev pub FixValid : List Message → Request → Type 0
 FixValid net (request.Fix deps) = All (DepIsValid net) deps
 FixValid net (request.Ask key) = ⊤
 FixValid net (request.Stamp key) = ⊤
-FixValid net (request.Store key value stamp writer) = ⊤
+FixValid net (request.Store key value stamp writer) = 0 < stamp.number
 FixValid net (request.Lock attempt coordinator reads writes) = ⊤
 FixValid net (request.Prepare attempt least earliest_end writes) = ⊤
 FixValid net (request.Decide attempt commit time) = ⊤
@@ -243,6 +244,7 @@ round_grows net more g r h = record {
   fixes = All-weaker (DepIsValid net) (DepIsValid more) (dep_grows net more g) (work_deps r.work) h.fixes;
   cells = λ key cell dep e f. valid_grows net more key cell g (h.cells key cell dep e f);
   left = All-weaker (DepIsValid net) (DepIsValid more) (dep_grows net more g) (phase_deps r.phase) h.left;
+  above = h.above;
 }
 
 session_grows : (net more : List Message) → Grows net more → (x : Session) → SessionValid net x → SessionValid more x
@@ -258,7 +260,7 @@ request_grows net more g o (Shard n) r h = tt
 request_grows net more g o (Replica service replica) (request.Fix deps) h = All-weaker (DepIsValid net) (DepIsValid more) (dep_grows net more g) deps h
 request_grows net more g o (Replica service replica) (request.Ask key) h = tt
 request_grows net more g o (Replica service replica) (request.Stamp key) h = tt
-request_grows net more g o (Replica service replica) (request.Store key value stamp writer) h = tt
+request_grows net more g o (Replica service replica) (request.Store key value stamp writer) h = h
 request_grows net more g o (Replica service replica) (request.Lock attempt coordinator reads writes) h = tt
 request_grows net more g o (Replica service replica) (request.Prepare attempt least earliest_end writes) h = tt
 request_grows net more g o (Replica service replica) (request.Decide attempt commit time) h = tt

@@ -116,35 +116,36 @@ use Rattle.world_laws.proofs.Named.{Named, RequestOn}
 use Rattle.world_laws.proofs.Replies.{place, old_message, new_message, exchange_there}
 use Rattle.world_laws.proofs.Sent.{sent_weaker}
 use Rattle.world_laws.proofs.StoreWalk.{Serves}
-use Rattle.reg_laws.specs.Stored.{WasStored, IsValid, DepIsValid, HoldsStored}
+use Rattle.reg_laws.specs.Stored.{WasStored, IsValid, DepIsValid, StampsName, HoldsStored}
+use Rattle.reg_laws.proofs.Stores.{stamps_run}
 use Rattle.reg_laws.proofs.Awaits.{Awaiting, set_there, nobody_sends, beginning_idle}
 use Rattle.reg_laws.proofs.Base.{Known, KnownAt, sound_of, named_of, fine_of, at_rest, known_run}
 use Rattle.reg_laws.proofs.Hearing.{session_valid, leaving_valid, working_valid, resting_valid, doing_valid, new_valid}
 use Rattle.reg_laws.proofs.Valid.{Grows, grows_more, grows_meets, valid_grows, request_grows, work_deps, asks_about, RoundValid, SessionValid, OwnerValid, FixValid, RequestValid, RepliesValid, ReplicasValid, ValidIn, Valid, valid_more}
 
 -- what a phase asks to store was stored
-phase_valid : (net : List Message) (r : RegSession) (q : Request) → All (DepIsValid net) (work_deps r.work) → phase_request r.call r.work r.phase ≡ Some q → FixValid net q
-phase_valid net r q k a = by_work r.work r.phase k a
+phase_valid : (net : List Message) (r : RegSession) (q : Request) → RoundValid net r → phase_request r.call r.work r.phase ≡ Some q → FixValid net q
+phase_valid net r q h a = by_work r.work r.phase h.fixes h.above a
   where
-    by_work : (w : RegWork) (p : RegPhase) → All (DepIsValid net) (work_deps w) → phase_request r.call w p ≡ Some q → FixValid net q
-    by_work (work.Fix deps) phase.Fixing k a = subst (FixValid net) (some_is (request.Fix deps) q a) k
-    by_work (work.Fix deps) phase.Asking k a = absurd (none_is_not q a)
-    by_work (work.Fix deps) phase.Stamping k a = absurd (none_is_not q a)
-    by_work (work.Fix deps) (phase.Storing stamp) k a = absurd (none_is_not q a)
-    by_work (work.Fix deps) (phase.Done end) k a = absurd (none_is_not q a)
-    by_work (work.Read key) phase.Fixing k a = absurd (none_is_not q a)
-    by_work (work.Read key) phase.Asking k a = subst (FixValid net) (some_is (request.Ask key) q a) tt
-    by_work (work.Read key) phase.Stamping k a = absurd (none_is_not q a)
-    by_work (work.Read key) (phase.Storing stamp) k a = absurd (none_is_not q a)
-    by_work (work.Read key) (phase.Done end) k a = absurd (none_is_not q a)
-    by_work (work.Write key value) phase.Fixing k a = absurd (none_is_not q a)
-    by_work (work.Write key value) phase.Asking k a = absurd (none_is_not q a)
-    by_work (work.Write key value) phase.Stamping k a = subst (FixValid net) (some_is (request.Stamp key) q a) tt
-    by_work (work.Write key value) (phase.Storing stamp) k a = subst (FixValid net) (some_is (request.Store key value stamp r.call) q a) tt
-    by_work (work.Write key value) (phase.Done end) k a = absurd (none_is_not q a)
+    by_work : (w : RegWork) (p : RegPhase) → All (DepIsValid net) (work_deps w) → ((x : Carstamp) → p ≡ phase.Storing x → 0 < x.number) → phase_request r.call w p ≡ Some q → FixValid net q
+    by_work (work.Fix deps) phase.Fixing k l a = subst (FixValid net) (some_is (request.Fix deps) q a) k
+    by_work (work.Fix deps) phase.Asking k l a = absurd (none_is_not q a)
+    by_work (work.Fix deps) phase.Stamping k l a = absurd (none_is_not q a)
+    by_work (work.Fix deps) (phase.Storing stamp) k l a = absurd (none_is_not q a)
+    by_work (work.Fix deps) (phase.Done end) k l a = absurd (none_is_not q a)
+    by_work (work.Read key) phase.Fixing k l a = absurd (none_is_not q a)
+    by_work (work.Read key) phase.Asking k l a = subst (FixValid net) (some_is (request.Ask key) q a) tt
+    by_work (work.Read key) phase.Stamping k l a = absurd (none_is_not q a)
+    by_work (work.Read key) (phase.Storing stamp) k l a = absurd (none_is_not q a)
+    by_work (work.Read key) (phase.Done end) k l a = absurd (none_is_not q a)
+    by_work (work.Write key value) phase.Fixing k l a = absurd (none_is_not q a)
+    by_work (work.Write key value) phase.Asking k l a = absurd (none_is_not q a)
+    by_work (work.Write key value) phase.Stamping k l a = subst (FixValid net) (some_is (request.Stamp key) q a) tt
+    by_work (work.Write key value) (phase.Storing stamp) k l a = subst (FixValid net) (some_is (request.Store key value stamp r.call) q a) (l stamp refl)
+    by_work (work.Write key value) (phase.Done end) k l a = absurd (none_is_not q a)
 
 round_valid_out : (net : List Message) (o : ℕ) (r : RegSession) (out : Out) → RoundValid net r → RoundOut r out → RequestValid net o out.target out.request
-round_valid_out net o r out h d = subst (λ (t : Target). RequestValid net o t out.request) (sym d.target) (phase_valid net r out.request h.fixes d.asked)
+round_valid_out net o r out h d = subst (λ (t : Target). RequestValid net o t out.request) (sym d.target) (phase_valid net r out.request h d.asked)
 
 shard_valid_out : (net : List Message) (o : ℕ) (target : Target) (r : Request) → to_shard target r ≡ true → RequestValid net o target r
 shard_valid_out net o (Shard n) r e = tt
@@ -559,6 +560,22 @@ valid_start c = record {
 pub valid_ticks : (c : Config) (s : State) (at : Reading) → Valid c s → Valid c (ticks s at)
 valid_ticks c s at h = record { owners = h.owners; deps = record { stages = h.deps.stages; pipes = h.deps.pipes; copies = h.deps.copies }; messages = h.messages; replies = h.replies; replicas = h.replicas }
 
+-- values of one register with one stamp are the same
+stored_above : (c : Config) (s : State) (key : Key) (cell : RegReply) → WasStored s.net key cell → Valid c s → 0 < cell.stamp.number
+stored_above c s key cell a h = subst (λ (t : Target). RequestValid s.net (message_at s.net a.number).envelope.owner t (request.Store key cell.value cell.stamp cell.writer)) a.target (h.messages.each a.number (request.Store key cell.value cell.stamp cell.writer) a.says)
+
+not_opening : (c : Config) (s : State) (key : Key) (x y : RegReply) → x ≡ opening_cell → WasStored s.net key y → Valid c s → x.stamp ≡ y.stamp → ⊥
+not_opening c s key x y e a h f =
+    let n : y.stamp.number ≡ 0 = ap (λ (z : Carstamp). z.number) (sym f) ∙ ap (λ (z : RegReply). z.stamp.number) e in
+    let l = stored_above c s key y a h in
+    absurd (omega (arith, n, l))
+
+pub values_agree : (c : Config) (s : State) (key : Key) (x y : RegReply) → StampsName s.net → Valid c s → IsValid s.net key x → IsValid s.net key y → x.stamp ≡ y.stamp → x ≡ y
+values_agree c s key x y n h (inl a) (inl b) e = a ∙ sym b
+values_agree c s key x y n h (inr a) (inr b) e = n.cell key key x y a b e
+values_agree c s key x y n h (inl a) (inr b) e = absurd (not_opening c s key x y a b h e)
+values_agree c s key x y n h (inr a) (inl b) e = absurd (not_opening c s key y x b a h (sym e))
+
 -- all that stands in a state of a run was stored
 pub holds_run : (c : Config) (steps : List Step) (s : State) → NamesRegisters c → run c steps ≡ Some s → HoldsStored c s
 holds_run c steps s n e =
@@ -567,4 +584,5 @@ holds_run c steps s n e =
       replicas = λ key place i. h.replicas.each key place i;
       dependencies = h.deps;
       fixes = λ m replica service deps t b. subst (λ (x : Target). RequestValid s.net (message_at s.net m).envelope.owner x (request.Fix deps)) t (h.messages.each m (request.Fix deps) b);
+      agree = λ key x y a b f. values_agree c s key x y (stamps_run c steps s n e) h a b f;
     }

@@ -5,7 +5,7 @@ use Rattle.rss_machine.specs.Run.{run}
 use Rattle.rss_machine.specs.State.{State}
 use Rattle.rss_machine.specs.declared.step.Step.{Step}
 use Rattle.world_laws.specs.Registers.{NamesRegisters}
-use Rattle.reg_laws.specs.Stored.{StampsName}
+use Rattle.reg_laws.specs.Stored.{StampsName, HoldsStored}
 use Rattle.reg_laws.specs.Awaited.{CurrentsAwaited, RepliesAreOwn}
 
 -- each current exchange is awaited
@@ -19,3 +19,7 @@ HeardRepliesAreOwn = (c : Config) (steps : List Step) (s : State) → run c step
 -- one stamp is of one register, one value and one writer
 abbrev pub StampsAreUnique : Type 0
 StampsAreUnique = (c : Config) (steps : List Step) (s : State) → NamesRegisters c → run c steps ≡ Some s → StampsName s.net
+
+-- what is held, depended on and shown was stored
+abbrev pub WhatIsHeldWasStored : Type 0
+WhatIsHeldWasStored = (c : Config) (steps : List Step) (s : State) → NamesRegisters c → run c steps ≡ Some s → HoldsStored c s

@@ -34,11 +34,12 @@ abbrev pub DepIsValid : List Message → Dep → Type 0
 DepIsValid net dep = IsValid net dep.key (dep_cell dep)
 
 -- what replicas hold of registers of the file, what contexts depend on, and what rounds of dependencies
--- store, was stored
+-- store, was stored; and values of one register with one stamp are the same
 pub record HoldsStored (c : Config) (s : State) : Type 0 where
   pub replicas : (key : Key) (place : ℕ) → IsRegister c key → IsValid s.net key (held_at (get_or (replicas_at s key.service) place []) key)
   pub dependencies : AllDeps (DepIsValid s.net) s
   pub fixes : (m replica : ℕ) (service : ServiceId) (deps : List Dep) → (message_at s.net m).envelope.target ≡ Replica service replica → (message_at s.net m).body ≡ body.Request (request.Fix deps) → All (DepIsValid s.net) deps
+  pub agree : (key : Key) (x y : RegReply) → IsValid s.net key x → IsValid s.net key y → x.stamp ≡ y.stamp → x ≡ y
 
 -- one stamp is of one register, one value and one writer
 pub record StampsName (net : List Message) : Type 0 where

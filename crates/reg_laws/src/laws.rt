@@ -1,6 +1,6 @@
 //! The laws of rounds. They hold no code: each is the contract of a function that does nothing.
 
-ghost use Rattle.reg_laws.specs.Laws.{CurrentsAreAwaited, HeardRepliesAreOwn, StampsAreUnique};
+ghost use Rattle.reg_laws.specs.Laws.{CurrentsAreAwaited, HeardRepliesAreOwn, StampsAreUnique, WhatIsHeldWasStored};
 
 /// In every run each current exchange of an owner is one that it awaits: with a round under way it is
 /// the owner's request of the round's phase to the replica of its slot, and an owner with nothing
@@ -21,4 +21,11 @@ pub fn heard_replies_are_own()
 /// one writer: two stores that replicas were sent with the same stamp are of the same.
 pub fn stamps_are_unique()
     ensures { StampsAreUnique }
+{}
+
+/// In every run of a file whose scripts name its registers, what a replica holds of a register, what any
+/// context depends on, wherever it lies, and what a round of dependencies stores is the opening value or
+/// what a call stored of that very register; and values of one register with one stamp are the same.
+pub fn what_is_held_was_stored()
+    ensures { WhatIsHeldWasStored }
 {}

@@ -3,4 +3,6 @@
 
 mod laws;
 
-pub use laws::{currents_are_awaited, heard_replies_are_own, stamps_are_unique};
+pub use laws::{
+    currents_are_awaited, heard_replies_are_own, stamps_are_unique, what_is_held_was_stored,
+};
