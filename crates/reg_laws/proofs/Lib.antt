@@ -4,3 +4,6 @@ pub mod Stores
 pub mod Valid
 pub mod Hearing
 pub mod ValidRuns
+pub mod Tells
+pub mod Shapes
+pub mod Proves

@@ -231,14 +231,14 @@ valid_changed c new s t owners d a w h =
     })
 
 -- what a replica holds of a register, after it has accepted
-accept_holds : (G : RegReply → Type 0) (cells : List RegReply) (other key : Key) (cell : RegReply) → G (held_at cells key) → (other.index ≡ key.index → G cell) → G (held_at (accept cells other cell) key)
+pub accept_holds : (G : RegReply → Type 0) (cells : List RegReply) (other key : Key) (cell : RegReply) → G (held_at cells key) → (other.index ≡ key.index → G cell) → G (held_at (accept cells other cell) key)
 accept_holds G cells other key cell h f = cond_both (stamp_lt (held_at cells other).stamp cell.stamp) (set cells other.index cell) cells (λ (xs : List RegReply). G (held_at xs key)) (λ t. by_place (get_or_set cells other.index cell key.index opening_cell)) (λ t. h)
   where
     by_place : ((get_or (set cells other.index cell) key.index opening_cell ≡ cell) × (key.index ≡ other.index) × (other.index < length cells)) ⊎ ((get_or (set cells other.index cell) key.index opening_cell ≡ get_or cells key.index opening_cell) × ((key.index ≡ other.index → ⊥) ⊎ (length cells ≤ key.index))) → G (held_at (set cells other.index cell) key)
     by_place (inl e) = subst G (sym e.0) (f (sym e.1))
     by_place (inr e) = subst G (sym e.0) h
 
-abbrev Fitting : (RegReply → Type 0) → Key → Dep → Type 0
+abbrev pub Fitting : (RegReply → Type 0) → Key → Dep → Type 0
 Fitting G key dep = dep.key.index ≡ key.index → G (dep_cell dep)
 
 accept_all_holds : (G : RegReply → Type 0) (key : Key) (deps : List Dep) (cells : List RegReply) → G (held_at cells key) → All (Fitting G key) deps → G (held_at (accept_all cells deps) key)
@@ -247,7 +247,7 @@ accept_all_holds G key (dep ∷ deps) cells h a =
     accept_all_holds G key deps (accept cells dep.key (dep_cell dep)) (accept_holds G cells dep.key key (dep_cell dep) h (All-head (Fitting G key) dep deps a)) (All-tail (Fitting G key) dep deps a)
 
 -- what a request brings of a register
-abbrev Brings : (RegReply → Type 0) → Key → Request → Type 0
+abbrev pub Brings : (RegReply → Type 0) → Key → Request → Type 0
 Brings G key (request.Store other value stamp writer) = other.index ≡ key.index → G (record { value = value; stamp = stamp; writer = writer })
 Brings G key (request.Fix deps) = All (Fitting G key) deps
 Brings G key (request.Ask other) = ⊤
@@ -261,7 +261,7 @@ Brings G key (request.Inquire attempt) = ⊤
 Brings G key (request.Release attempt time last) = ⊤
 Brings G key (request.Snapshot read_time least keys skip) = ⊤
 
-after_holds : (G : RegReply → Type 0) (key : Key) (cells : List RegReply) (r : Request) → G (held_at cells key) → Brings G key r → G (held_at (replica_after cells r) key)
+pub after_holds : (G : RegReply → Type 0) (key : Key) (cells : List RegReply) (r : Request) → G (held_at cells key) → Brings G key r → G (held_at (replica_after cells r) key)
 unfolding replica_after
 after_holds G key cells (request.Store other value stamp writer) h f = accept_holds G cells other key (record { value = value; stamp = stamp; writer = writer }) h f
 after_holds G key cells (request.Fix deps) h f = accept_all_holds G key deps cells h f
@@ -308,7 +308,7 @@ brings c net m replica id key (request.Release attempt time last) l t b g k v = 
 brings c net m replica id key (request.Snapshot read_time least keys skip) l t b g k v = tt
 
 -- one replica of one service in the place of what it was
-placed : (G : List RegReply → Type 0) (all : List (List (List RegReply))) (x i : ℕ) (cells : List RegReply) (y j : ℕ) → G (get_or (get_or all y []) j []) → (y ≡ x → j ≡ i → G cells) → G (get_or (get_or (set all x (set (get_or all x []) i cells)) y []) j [])
+pub placed : (G : List RegReply → Type 0) (all : List (List (List RegReply))) (x i : ℕ) (cells : List RegReply) (y j : ℕ) → G (get_or (get_or all y []) j []) → (y ≡ x → j ≡ i → G cells) → G (get_or (get_or (set all x (set (get_or all x []) i cells)) y []) j [])
 placed G all x i cells y j h f = by_service (get_or_set all x (set (get_or all x []) i cells) y [])
   where
     by_service : ((get_or (set all x (set (get_or all x []) i cells)) y [] ≡ set (get_or all x []) i cells) × (y ≡ x) × (x < length all)) ⊎ ((get_or (set all x (set (get_or all x []) i cells)) y [] ≡ get_or all y []) × ((y ≡ x → ⊥) ⊎ (length all ≤ y))) → G (get_or (get_or (set all x (set (get_or all x []) i cells)) y []) j [])
@@ -345,7 +345,7 @@ shown_held cells (request.Release attempt time last) key value writer stamp a e 
 shown_held cells (request.Snapshot read_time least keys skip) key value writer stamp a e = absurd (none_is_not key a)
 
 -- what a request asks about it names
-about_named : (Q : Key → Type 0) (q : Request) (key : Key) → asks_about q ≡ Some key → All Q (registers_of q) → Q key
+pub about_named : (Q : Key → Type 0) (q : Request) (key : Key) → asks_about q ≡ Some key → All Q (registers_of q) → Q key
 about_named Q (request.Ask k) key a h = subst Q (some_is k key a) (All-head Q k [] h)
 about_named Q (request.Stamp k) key a h = subst Q (some_is k key a) (All-head Q k [] h)
 about_named Q (request.Store k v z w) key a h = subst Q (some_is k key a) (All-head Q k [] h)
@@ -360,7 +360,7 @@ about_named Q (request.Release attempt time last) key a h = absurd (none_is_not 
 about_named Q (request.Snapshot read_time least keys skip) key a h = absurd (none_is_not key a)
 
 -- registers that are kept by a service, by the test and each by itself
-each_kept : (id : ServiceId) (keys : List Key) → are_kept_by id keys ≡ true → All (λ (k : Key). id ≡ k.service) keys
+pub each_kept : (id : ServiceId) (keys : List Key) → are_kept_by id keys ≡ true → All (λ (k : Key). id ≡ k.service) keys
 unfolding are_kept_by
 each_kept id [] e = All-nil (λ (k : Key). id ≡ k.service)
 each_kept id (key ∷ keys) e =
@@ -368,12 +368,12 @@ each_kept id (key ∷ keys) e =
     All-cons (λ (k : Key). id ≡ k.service) key keys (same_service_is id key.service p.0) (each_kept id keys p.1)
 
 -- a request that is served is of the file's registers, and of the replica's service
-record ServedWell (c : Config) (net : List Message) (id : ServiceId) (r : Request) : Type 0 where
-  registers : All (IsRegister c) (registers_of r)
-  kept : All (λ (k : Key). id ≡ k.service) (registers_of r)
-  fixes : FixValid net r
+pub record ServedWell (c : Config) (net : List Message) (id : ServiceId) (r : Request) : Type 0 where
+  pub registers : All (IsRegister c) (registers_of r)
+  pub kept : All (λ (k : Key). id ≡ k.service) (registers_of r)
+  pub fixes : FixValid net r
 
-served_well : (c : Config) (s : State) (m replica : ℕ) (id : ServiceId) (r : Request) → Serves s m r (Replica id replica) → Known c s → Valid c s → ServedWell c s.net id r
+pub served_well : (c : Config) (s : State) (m replica : ℕ) (id : ServiceId) (r : Request) → Serves s m r (Replica id replica) → Known c s → Valid c s → ServedWell c s.net id r
 served_well c s m replica id r d g h = record {
   registers = subst (λ (t : Target). RequestOn (IsRegister c) (message_at s.net m).envelope.owner t r) d.to ((named_of c s g).messages.each m r d.asks);
   kept = each_kept id (registers_of r) (subst (λ (t : Target). is_proper_body t (body.Request r) ≡ true) d.to (subst (λ (b : Body). is_proper_body (message_at s.net m).envelope.target b ≡ true) d.asks ((fine_of c s g).messages m)));

@@ -1,11 +1,13 @@
 -- What holds of rounds and of what replicas keep, in every run.
-use Rattle.std.specs.Prelude.{◌≡◌, List, Some}
+use Rattle.std.specs.Prelude.{◌≡◌, List, ◌++◌, Some}
 use Rattle.pipeline_lang.specs.declared.config.Config.{Config}
 use Rattle.rss_machine.specs.Run.{run}
 use Rattle.rss_machine.specs.State.{State}
 use Rattle.rss_machine.specs.declared.step.Step.{Step}
 use Rattle.world_laws.specs.Registers.{NamesRegisters}
 use Rattle.reg_laws.specs.Stored.{StampsName, HoldsStored}
+use Rattle.reg_laws.specs.Files.{IsInOrder}
+use Rattle.reg_laws.specs.Told.{RepliesProve, RepliesTell}
 use Rattle.reg_laws.specs.Awaited.{CurrentsAwaited, RepliesAreOwn}
 
 -- each current exchange is awaited
@@ -23,3 +25,12 @@ StampsAreUnique = (c : Config) (steps : List Step) (s : State) → NamesRegister
 -- what is held, depended on and shown was stored
 abbrev pub WhatIsHeldWasStored : Type 0
 WhatIsHeldWasStored = (c : Config) (steps : List Step) (s : State) → NamesRegisters c → run c steps ≡ Some s → HoldsStored c s
+
+-- replies prove what replicas hold
+abbrev pub RepliesProveHolding : Type 0
+RepliesProveHolding = (c : Config) (steps : List Step) (s : State) → IsInOrder c → run c steps ≡ Some s → RepliesProve s
+
+-- replies tell of each moment before their request was sent
+abbrev pub RepliesTellOfBefore : Type 0
+RepliesTellOfBefore =
+    (c : Config) (steps more : List Step) (u s : State) → run c steps ≡ Some u → run c (steps ++ more) ≡ Some s → RepliesTell u s

@@ -1,3 +1,5 @@
 pub mod Awaited
 pub mod Stored
+pub mod Files
+pub mod Told
 pub mod Laws

@@ -1,6 +1,6 @@
 //! The laws of rounds. They hold no code: each is the contract of a function that does nothing.
 
-ghost use Rattle.reg_laws.specs.Laws.{CurrentsAreAwaited, HeardRepliesAreOwn, StampsAreUnique, WhatIsHeldWasStored};
+ghost use Rattle.reg_laws.specs.Laws.{CurrentsAreAwaited, HeardRepliesAreOwn, StampsAreUnique, WhatIsHeldWasStored, RepliesProveHolding, RepliesTellOfBefore};
 
 /// In every run each current exchange of an owner is one that it awaits: with a round under way it is
 /// the owner's request of the round's phase to the replica of its slot, and an owner with nothing
@@ -28,4 +28,17 @@ pub fn stamps_are_unique()
 /// what a call stored of that very register; and values of one register with one stamp are the same.
 pub fn what_is_held_was_stored()
     ensures { WhatIsHeldWasStored }
+{}
+
+/// In every run of a file whose scripts name its registers and whose register services are numbered in
+/// order: where a replica has replied to a store or to a round of dependencies it holds, now and later,
+/// at least each stamp that it was asked to hold; and where it has shown a stamp it holds at least that.
+pub fn replies_prove_holding()
+    ensures { RepliesProveHolding }
+{}
+
+/// From one state of a run to every later one: a reply to a request that was sent after the first shows
+/// at least the stamp that the replica held in it.
+pub fn replies_tell_of_before()
+    ensures { RepliesTellOfBefore }
 {}

@@ -4,5 +4,6 @@
 mod laws;
 
 pub use laws::{
-    currents_are_awaited, heard_replies_are_own, stamps_are_unique, what_is_held_was_stored,
+    currents_are_awaited, heard_replies_are_own, replies_prove_holding, replies_tell_of_before,
+    stamps_are_unique, what_is_held_was_stored,
 };

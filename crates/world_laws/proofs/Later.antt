@@ -67,10 +67,10 @@ after-rises cells (request.Release attempt time last) key = le_same (held_at cel
 after-rises cells (request.Snapshot read_time least keys skip) key = le_same (held_at cells key).stamp
 
 -- one replica of one service in the place of what it was
-place-rises : (all : List (List (List RegReply))) (x i : ℕ) (cells : List RegReply) (y place : ℕ) (key : Key) → stamp_le (held_at (get_or (get_or all x []) i []) key).stamp (held_at cells key).stamp ≡ true → stamp_le (held_at (get_or (get_or all y []) place []) key).stamp (held_at (get_or (get_or (set all x (set (get_or all x []) i cells)) y []) place []) key).stamp ≡ true
+pub place-rises : (all : List (List (List RegReply))) (x i : ℕ) (cells : List RegReply) (y place : ℕ) (key : Key) → stamp_le (held_at (get_or (get_or all x []) i []) key).stamp (held_at cells key).stamp ≡ true → stamp_le (held_at (get_or (get_or all y []) place []) key).stamp (held_at (get_or (get_or (set all x (set (get_or all x []) i cells)) y []) place []) key).stamp ≡ true
 place-rises all x i cells y place key e = let a = le_same (held_at (get_or (get_or all y []) place []) key).stamp in grind (arith, looks, a, e)
 
-later_same : (u : State) → Later u u
+pub later_same : (u : State) → Later u u
 later_same u = record {
   decisions = λ n a o e. e;
   floors = λ n. omega arith;
@@ -86,7 +86,7 @@ shard-decides s m shard latest r n a o e = let d = first-decision (shard_at s sh
 shard-rises : (s : State) (m shard latest : ℕ) (r : Request) (n : ℕ) → (shard_at s n).floor ≤ (shard_at (serves_shard s m shard latest r) n).floor
 shard-rises s m shard latest r n = let d = floor-rises (shard_at s shard) latest r in grind (arith, looks, d)
 
-later_keeps : (u : State) → StoreKeeps (Later u)
+pub later_keeps : (u : State) → StoreKeeps (Later u)
 later_keeps u = record {
   fates = λ s m f h. record {
     decisions = h.decisions;

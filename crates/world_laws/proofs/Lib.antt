@@ -25,3 +25,4 @@ pub mod NamedRuns
 pub mod Stacked
 pub mod FileRegisters
 pub mod SessionOwner
+pub mod StackRuns
