@@ -7,3 +7,4 @@ pub mod ValidRuns
 pub mod Tells
 pub mod Shapes
 pub mod Proves
+pub mod Rounds

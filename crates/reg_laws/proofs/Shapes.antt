@@ -134,7 +134,7 @@ after_long cells (request.Inquire attempt) = refl
 after_long cells (request.Release attempt time last) = refl
 after_long cells (request.Snapshot read_time least keys skip) = refl
 
-row_long : (all : List (List (List RegReply))) (x i : ℕ) (cells : List RegReply) (y : ℕ) → length (get_or (set all x (set (get_or all x []) i cells)) y []) ≡ length (get_or all y [])
+pub row_long : (all : List (List (List RegReply))) (x i : ℕ) (cells : List RegReply) (y : ℕ) → length (get_or (set all x (set (get_or all x []) i cells)) y []) ≡ length (get_or all y [])
 row_long all x i cells y = by_place (get_or_set all x (set (get_or all x []) i cells) y [])
   where
     by_place : ((get_or (set all x (set (get_or all x []) i cells)) y [] ≡ set (get_or all x []) i cells) × (y ≡ x) × (x < length all)) ⊎ ((get_or (set all x (set (get_or all x []) i cells)) y [] ≡ get_or all y []) × ((y ≡ x → ⊥) ⊎ (length all ≤ y))) → length (get_or (set all x (set (get_or all x []) i cells)) y []) ≡ length (get_or all y [])
