@@ -191,14 +191,14 @@ awaiting_more : (s : State) (x : Message) → Awaiting s → (o : ℕ) → OwnAw
 awaiting_more s x h o = own_stays s.net (s.net ++ x ∷ []) o (owner_at s o) (more_asked s.net x o) (h.each o)
 
 -- nobody is awaited where there are no current exchanges
-none_current : (slot m : ℕ) → get_or no_currents slot None ≡ Some m → ⊥
+pub none_current : (slot m : ℕ) → get_or no_currents slot None ≡ Some m → ⊥
 none_current slot m e = by_place (get_or_repeat slot_count None slot None)
   where
     by_place : ((get_or no_currents slot None ≡ None) × (slot < slot_count)) ⊎ ((get_or no_currents slot None ≡ None) × (slot_count ≤ slot)) → ⊥
     by_place (inl a) = none_is_not m (sym a.0 ∙ e)
     by_place (inr a) = none_is_not m (sym a.0 ∙ e)
 
-idle_current : (net : List Message) (o : ℕ) (w : Owner) (slot m : ℕ) → OwnAwaited net o w → w.session ≡ session.Idle → get_or w.currents slot None ≡ Some m → ⊥
+pub idle_current : (net : List Message) (o : ℕ) (w : Owner) (slot m : ℕ) → OwnAwaited net o w → w.session ≡ session.Idle → get_or w.currents slot None ≡ Some m → ⊥
 idle_current net o w slot m h i e = subst (λ (x : Session). IsAwaited net o x slot m) i (h.awaited slot m e)
 
 -- the requests that an owner sends are what it awaits
@@ -235,7 +235,7 @@ new_awaited net o n (session.Snapshot t) out slot d e = tt
 new_awaited net o n (session.Settling attempt shards) out slot d e = d slot e
 
 -- a current exchange is the new one of a slot, or an older one
-current_more : (cs : List (Option ℕ)) (q : Option ℕ) (m slot j : ℕ) → get_or (with_current cs q m) slot None ≡ Some j → ((j ≡ m) × (q ≡ Some slot)) ⊎ (get_or cs slot None ≡ Some j)
+pub current_more : (cs : List (Option ℕ)) (q : Option ℕ) (m slot j : ℕ) → get_or (with_current cs q m) slot None ≡ Some j → ((j ≡ m) × (q ≡ Some slot)) ⊎ (get_or cs slot None ≡ Some j)
 current_more cs None m slot j e = inr e
 current_more cs (Some k) m slot j e = by_place (get_or_set cs k (Some m) slot None)
   where
@@ -284,7 +284,7 @@ pub slot_current : (cs : List (Option ℕ)) (exchange slot : ℕ) → slot_in cs
 slot_current cs exchange slot e = let n : slot ≡ slot - 0 = omega arith in ap (λ (i : ℕ). get_or cs i None) n ∙ (slot_is cs 0 exchange slot e).1
 
 -- no current exchange with a target that was cut off
-current_without : (net : List Message) (target : Target) (cs : List (Option ℕ)) (slot j : ℕ) → get_or (without_target net target cs) slot None ≡ Some j → get_or cs slot None ≡ Some j
+pub current_without : (net : List Message) (target : Target) (cs : List (Option ℕ)) (slot j : ℕ) → get_or (without_target net target cs) slot None ≡ Some j → get_or cs slot None ≡ Some j
 current_without net target [] slot j e = e
 current_without net target (q ∷ cs) (suc slot) j e = current_without net target cs slot j e
 current_without net target (q ∷ cs) zero j e = by_current q e

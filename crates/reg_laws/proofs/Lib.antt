@@ -8,3 +8,4 @@ pub mod Tells
 pub mod Shapes
 pub mod Proves
 pub mod Rounds
+pub mod Since

@@ -214,7 +214,7 @@ session_up s t (session.Snapshot x) u h = tt
 session_up s t (session.Settling attempt shards) u h = tt
 
 -- nobody was heard in a round that begins
-nobody_heard_at : (replicas : ℕ) (cut : List Bool) (at : ℕ) (cell : RegReply) → IsHeardAt (opening_round replicas cut) at cell → ⊥
+pub nobody_heard_at : (replicas : ℕ) (cut : List Bool) (at : ℕ) (cell : RegReply) → IsHeardAt (opening_round replicas cut) at cell → ⊥
 nobody_heard_at replicas cut at cell e = by_place (get_or_repeat 7 None at None)
   where
     by_place : ((get_or nobody_heard at None ≡ None) × (at < 7)) ⊎ ((get_or nobody_heard at None ≡ None) × (7 ≤ at)) → ⊥
@@ -443,7 +443,7 @@ rows_of c s o f n x h key keys e =
     shaped (inl y) = subst (SessionShaped c) y (session_shaped c s o h.1.sessions)
     shaped (inr y) = subst (SessionShaped c) y (session_shaped c s o h.1.sessions)
 
-round_held : (s : State) (o : ℕ) (f : RegSession) → IsRound (session_at s o) f → Rounding s → RoundHeld s f
+pub round_held : (s : State) (o : ℕ) (f : RegSession) → IsRound (session_at s o) f → Rounding s → RoundHeld s f
 round_held s o f (inl x) h = subst (SessionHeld s) x (session_held s o h.rounds)
 round_held s o f (inr x) h = subst (SessionHeld s) x (session_held s o h.rounds)
 

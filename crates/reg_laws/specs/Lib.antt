@@ -2,4 +2,5 @@ pub mod Awaited
 pub mod Stored
 pub mod Files
 pub mod Told
+pub mod Rounds
 pub mod Laws
