@@ -103,7 +103,7 @@ use Rattle.rss_machine.specs.Moves.{with_owner, closed, unsettled_by, enters, wa
 use Rattle.rss_machine.specs.Refusal.{unless_enabled}
 use Rattle.rss_machine.specs.State.{no_currents, opening_owner}
 use Rattle.rss_machine.specs.declared.state.Life.TheVariants as life
-use Rattle.rss_machine.specs.declared.state.OwnerFate.TheVariants.{Ended, CutOff}
+use Rattle.rss_machine.specs.declared.state.OwnerFate.TheVariants.{Ended, Dropped, CutOff}
 use Rattle.rss_machine.specs.declared.turn.Enabling.TheVariants.{Never}
 use Rattle.world_laws.specs.Contexts.{AllDeps, StageHolds, CopyHolds, ChunkHolds, PipeHolds, mark_deps}
 use Rattle.world_laws.proofs.Contexts.{joined_hold, fenced_hold, stage_holds, stages_hold, copy_holds, pipe_holds, exit_holds, put_pipe, taken_pipe}
@@ -111,11 +111,10 @@ use Rattle.world_laws.proofs.Doings.{Changed, Heard, fence_ended, turned, launch
 use Rattle.world_laws.proofs.Looks.{none_is_not, some_is}
 use Rattle.world_laws.proofs.SessionWalk.{session_at, IsLost, IsAgain}
 
--- what has to be shown of a predicate on states, and of one on states with an owner at rest
-pub record OwnerKeeps (c : Config) (at : Reading) (P : State → Type 0) (R : State → ℕ → Type 0) : Type 1 where
+-- what has to be shown of a predicate on states, and of one on states with an owner at rest: that it is kept
+-- by all that owners do, and where a message meets a fate
+pub record OwnerMoves (c : Config) (at : Reading) (P : State → Type 0) (R : State → ℕ → Type 0) : Type 1 where
   pub fates : (s : State) (m : ℕ) (f : Fate) → P s → P (marks_message s m f)
-  pub shards : (s : State) (m shard : ℕ) (r : Request) → Serves s m r (Shard shard) → P s → P (serves_shard s m shard at.latest r)
-  pub replicas : (s : State) (m : ℕ) (service : ServiceId) (replica : ℕ) (r : Request) → Serves s m r (Replica service replica) → P s → P (notes_served (serves_replica s m service replica r) (message_at s.net m).envelope.owner service r)
   pub again : (s : State) (o exchange slot : ℕ) (target : Target) (r : Request) → IsAgain s o exchange slot target r → P s → P (sends_one s o (record { slot = Some slot; target = target; request = r }))
   pub stages : (s t : State) → Changed [] s.owners s t → P s → P t
   pub dies : (s t : State) (n : ℕ) (u : Option (Attempt × List ℕ)) → Changed [] (s.owners ++ opening_owner n (kind.Stubbing u) false (no_works (stage_at s n).context) s.steps ∷ []) s t → P s → P t
@@ -127,6 +126,12 @@ pub record OwnerKeeps (c : Config) (at : Reading) (P : State → Type 0) (R : St
   pub works : (s t : State) (o : ℕ) (w : Owner) → o < length s.owners → Working at s o w → Changed [] (set s.owners o w) s t → R s o → R t o
   pub leaves : (s t : State) (o : ℕ) (w : Owner) (outs : List Out) → o < length s.owners → Leaving c at s o w outs → Changed [] (set s.owners o w) s t → R s o → P (sends t o outs)
   pub does : (s t : State) (o : ℕ) (w : Owner) (outs : List Out) (new : List Dep) → Doing s o w outs new → Changed new (set s.owners o w) s t → P s → P (sends t o outs)
+
+-- and where a shard or a replica serves a request
+pub record OwnerKeeps (c : Config) (at : Reading) (P : State → Type 0) (R : State → ℕ → Type 0) : Type 1 where
+  pub moves : OwnerMoves c at P R
+  pub shards : (s : State) (m shard : ℕ) (r : Request) → Serves s m r (Shard shard) → P s → P (serves_shard s m shard at.latest r)
+  pub replicas : (s : State) (m : ℕ) (service : ServiceId) (replica : ℕ) (r : Request) → Serves s m r (Replica service replica) → P s → P (notes_served (serves_replica s m service replica r) (message_at s.net m).envelope.owner service r)
 
 -- the stores are the same where only stages, pipes, owners, counts of fences and history change
 abbrev same_stores : {s : State} {stages : List Stage} {pipes : List Pipe} {owners : List Owner} {planned : List ℕ} {history : List Entry} → SameStores s (record s { stages = stages; pipes = pipes; owners = owners; planned = planned; history = history })
@@ -261,7 +266,7 @@ ready s o (op.Txn reads guard writes) e = tt
 abbrev Lies : List Stage → Seen → Type 1
 Lies stages seen = (G : Dep → Type 0) → All (StageHolds G) stages → All G seen.deps
 
-module _ (c : Config) (at : Reading) (P : State → Type 0) (R : State → ℕ → Type 0) (k : OwnerKeeps c at P R) where
+module _ (c : Config) (at : Reading) (P : State → Type 0) (R : State → ℕ → Type 0) (k : OwnerMoves c at P R) where
   -- stages, and pipes
   stage : (s : State) (stages : List Stage) (history : List Entry) → ((G : Dep → Type 0) → AllDeps G s → All (StageHolds G) stages) → P s → P (record s { stages = stages; history = history })
   stage s stages history f p = k.stages s (record s { stages = stages; history = history }) (stage_changed s stages history f) p
@@ -650,10 +655,6 @@ module _ (c : Config) (at : Reading) (P : State → Type 0) (R : State → ℕ �
   w_acts s n (Some o) h = w_owner_acts s o (owner_at s o).works.wait refl h
 
   -- messages
-  w_request_comes : (s : State) (m : ℕ) (r : Request) → IsSent s m → (message_at s.net m).body ≡ body.Request r → (target : Target) → (message_at s.net m).envelope.target ≡ target → P s → P (request_comes s m (message_at s.net m).envelope.owner at target r)
-  w_request_comes s m r d b (Shard shard) e h = k.shards s m shard r (record { numbered = d.numbered; sent = d.sent; asks = b; to = e }) h
-  w_request_comes s m r d b (Replica service replica) e h = k.replicas s m service replica r (record { numbered = d.numbered; sent = d.sent; asks = b; to = e }) h
-
   w_fix_hears : (s : State) (o slot : ℕ) (f : RegSession) (r : Reply) → session_at s o ≡ session.Fixing f → Heard s o slot r → (e : Option RegEnd) → phase_end (session_after f (slot_replica slot) r).phase ≡ e →
       P s → P (fix_goes_on c (listens s o slot) o at (session_after f (slot_replica slot) r) e)
   w_fix_hears s o slot f r x d None e h =
@@ -759,18 +760,6 @@ module _ (c : Config) (at : Reading) (P : State → Type 0) (R : State → ℕ �
       let o = (message_at s.net m).envelope.owner in
       w_owner_hears s o slot r (record { number = m; numbered = d.numbered; sent = d.sent; by = refl; says = b; current = e }) (owner_at s o).session refl h
 
-  w_comes : (s : State) (m : ℕ) → IsSent s m → (x : MessageBody) → (message_at s.net m).body ≡ x → P s → P (comes c s m at (message_at s.net m).envelope x)
-  w_comes s m d (body.Request r) b h = w_request_comes s m r d b (message_at s.net m).envelope.target refl h
-  w_comes s m d (body.Reply r) b h = let e = (message_at s.net m).envelope in w_reply_comes s m r d b (slot_in (owner_at s e.owner).currents e.exchange) refl h
-
-  -- a message that was sent is delivered, once or again
-  w_delivers : (s : State) (m : ℕ) (f : Fate) → IsSent s m → P s → P (comes c (marks_message s m f) m at (message_at s.net m).envelope (message_at s.net m).body)
-  w_delivers s m f d h =
-      let t = marks_message s m f in
-      let q : message_at t.net m ≡ record (message_at s.net m) { fate = f } = get_or-set_same s.net m _ no_message d.sent in
-      subst (λ (x : Message). P (comes c t m at x.envelope x.body)) q
-      (w_comes t m (record { numbered = d.numbered; sent = grind (arith, looks, d.sent) }) (message_at t.net m).body refl (k.fates s m f h))
-
   -- losses
   w_target_lost : (s : State) (o : ℕ) (target : Target) (x : OwnerKind) → P s → P (target_lost c s o target x)
   w_target_lost s o target (kind.Calling x) h = w_dies s _ Unavailable _ h
@@ -856,12 +845,58 @@ module _ (c : Config) (at : Reading) (P : State → Type 0) (R : State → ℕ �
   w_stub_of_stage s None e h = h
   w_stub_of_stage s (Some o) e h = w_stub_acts s o (owner_at s o).started refl (stub_runs s o (is_running (owner_at s o).fate) e) h
 
+  -- an act, a loss, a death and a step of a stub
+  w_act : (s : State) (n : ℕ) → P s → P (acts c (counts_act s n) n at (stage_at s n).owner)
+  w_act s n h = w_acts (counts_act s n) n (stage_at s n).owner (moves s n _ s.history refl h)
+
+  w_lose : (s : State) (m : ℕ) → IsSent s m → P s → P (loses c (marks_message s m fate.Lost) (message_at s.net m).envelope)
+  w_lose s m d h = w_loses (marks_message s m fate.Lost) (message_at s.net m).envelope (is_lost s m d) (k.fates s m fate.Lost h)
+
+  w_kill : (s : State) (n : ℕ) → P s → P (dies s n Killed Dropped)
+  w_kill s n h = w_dies s n Killed Dropped h
+
+-- a request that is delivered: what the step does is what its target does with it
+pub record Served (c : Config) (at : Reading) (s v : State) : Type 0 where
+  pub number : ℕ
+  pub fate : Fate
+  pub request : Request
+  pub sent : IsSent (marks_message s number fate) number
+  pub asks : (message_at (marks_message s number fate).net number).body ≡ body.Request request
+  pub same : v ≡ request_comes (marks_message s number fate) number (message_at (marks_message s number fate).net number).envelope.owner at (message_at (marks_message s number fate).net number).envelope.target request
+
+module _ (c : Config) (at : Reading) (P : State → Type 0) (R : State → ℕ → Type 0) (k : OwnerMoves c at P R) where
+  comes_or_serves : (s : State) (m : ℕ) (f : Fate) → IsSent (marks_message s m f) m → (x : MessageBody) → (message_at (marks_message s m f).net m).body ≡ x → P (marks_message s m f) → (P (comes c (marks_message s m f) m at (message_at (marks_message s m f).net m).envelope x)) ⊎ Served c at s (comes c (marks_message s m f) m at (message_at (marks_message s m f).net m).envelope x)
+  comes_or_serves s m f d (body.Request r) b h = inr (record { number = m; fate = f; request = r; sent = d; asks = b; same = refl })
+  comes_or_serves s m f d (body.Reply r) b h = let e = (message_at (marks_message s m f).net m).envelope in inl (w_reply_comes c at P R k (marks_message s m f) m r d b (slot_in (owner_at (marks_message s m f) e.owner).currents e.exchange) refl h)
+
+  delivers_or_serves : (s : State) (m : ℕ) (f : Fate) → IsSent s m → P s → (P (comes c (marks_message s m f) m at (message_at s.net m).envelope (message_at s.net m).body)) ⊎ Served c at s (comes c (marks_message s m f) m at (message_at s.net m).envelope (message_at s.net m).body)
+  delivers_or_serves s m f d h =
+      let t = marks_message s m f in
+      let q : message_at t.net m ≡ record (message_at s.net m) { fate = f } = get_or-set_same s.net m _ no_message d.sent in
+      subst (λ (x : Message). (P (comes c t m at x.envelope x.body)) ⊎ Served c at s (comes c t m at x.envelope x.body)) q
+      (comes_or_serves s m f (record { numbered = d.numbered; sent = grind (arith, looks, d.sent) }) (message_at t.net m).body refl (k.fates s m f h))
+
+  -- every kind of step that is not refused keeps what owners keep, or a target serves a request
+  pub moves_or_serves : (s : State) (x : StepKind) → kind_refusal c s at x ≡ None → P s → (P (effect c s at x)) ⊎ Served c at s (effect c s at x)
+  unfolding effect
+  moves_or_serves s (Act n) e h = inl (w_act c at P R k s n h)
+  moves_or_serves s (Go m) e h = delivers_or_serves s m fate.Delivered (by_sent s m (is_sent s.net m) refl _ e) h
+  moves_or_serves s (Again m) e h = delivers_or_serves s m fate.Repeated (by_sent s m (is_sent s.net m) refl _ e) h
+  moves_or_serves s (Lose m) e h = inl (w_lose c at P R k s m (by_sent s m (is_sent s.net m) refl _ e) h)
+  moves_or_serves s (Kill n) e h = inl (w_kill c at P R k s n h)
+  moves_or_serves s (Stub n) e h = inl (w_stub_of_stage c at P R k s (stage_at s n).stub e h)
+
+module _ (c : Config) (at : Reading) (P : State → Type 0) (R : State → ℕ → Type 0) (k : OwnerKeeps c at P R) where
+  w_request_comes : (s : State) (m : ℕ) (r : Request) → IsSent s m → (message_at s.net m).body ≡ body.Request r → (target : Target) → (message_at s.net m).envelope.target ≡ target → P s → P (request_comes s m (message_at s.net m).envelope.owner at target r)
+  w_request_comes s m r d b (Shard shard) e h = k.shards s m shard r (record { numbered = d.numbered; sent = d.sent; asks = b; to = e }) h
+  w_request_comes s m r d b (Replica service replica) e h = k.replicas s m service replica r (record { numbered = d.numbered; sent = d.sent; asks = b; to = e }) h
+
   -- every kind of step that is not refused
   pub owner_walk : (s : State) (x : StepKind) → kind_refusal c s at x ≡ None → P s → P (effect c s at x)
-  unfolding effect
-  owner_walk s (Act n) e h = w_acts (counts_act s n) n (stage_at s n).owner (moves s n _ s.history refl h)
-  owner_walk s (Go m) e h = w_delivers s m fate.Delivered (by_sent s m (is_sent s.net m) refl _ e) h
-  owner_walk s (Again m) e h = w_delivers s m fate.Repeated (by_sent s m (is_sent s.net m) refl _ e) h
-  owner_walk s (Lose m) e h = w_loses (marks_message s m fate.Lost) (message_at s.net m).envelope (is_lost s m (by_sent s m (is_sent s.net m) refl _ e)) (k.fates s m fate.Lost h)
-  owner_walk s (Kill n) e h = w_dies s n Killed _ h
-  owner_walk s (Stub n) e h = w_stub_of_stage s (stage_at s n).stub e h
+  owner_walk s x e h = by_served (moves_or_serves c at P R k.moves s x e h)
+    where
+      by_served : (P (effect c s at x)) ⊎ Served c at s (effect c s at x) → P (effect c s at x)
+      by_served (inl p) = p
+      by_served (inr d) =
+          let t = marks_message s d.number d.fate in
+          subst P (sym d.same) (w_request_comes t d.number d.request d.sent d.asks (message_at t.net d.number).envelope.target refl (k.moves.fates s d.number d.fate h))

@@ -174,9 +174,10 @@ module _ (c : Config) (at : Reading) (P : State → Type 0) (k : SessionKeeps c 
   -- what looks at the stores and at what owners have under way is kept by all that owners do
   pub session_owner : OwnerKeeps c at P (λ s o. P s)
   session_owner = record {
-    fates = k.fates;
     shards = λ s m shard r d p. k.shards s m shard at.latest r d p;
     replicas = k.replicas;
+    moves = record {
+    fates = k.fates;
     again = k.again;
     stages = λ s t d p. k.others s t d.stores (same_sessions s t d.owned) p;
     dies = λ s t n u d p. k.others s t d.stores (grown_sessions s t _ refl d.owned) p;
@@ -187,6 +188,7 @@ module _ (c : Config) (at : Reading) (P : State → Type 0) (k : SessionKeeps c 
     works = λ s t o w i b d p. session_works s t o w b d p;
     leaves = λ s t o w outs i b d p. session_leaves s t o w outs b d p;
     does = λ s t o w outs new b d p. session_does s t o w outs new b d p;
+    };
   }
     where
       beginning_idle : (s : State) (w : Owner) → Beginning c s w → w.session ≡ session.Idle

@@ -119,9 +119,10 @@ module _ (c : Config) (at : Reading) (P : State → Type 0) (k : StoreKeeps P) w
 
   pub store_owner : OwnerKeeps c at P (λ s o. P s)
   store_owner = record {
-    fates = k.fates;
     shards = λ s m shard r d p. k.shards s m shard at.latest r d p;
     replicas = k.replicas;
+    moves = record {
+    fates = k.fates;
     again = λ s o exchange slot target r d p. k.sends s o (record { slot = Some slot; target = target; request = r }) p;
     stages = λ s t d p. k.others s t d.stores p;
     dies = λ s t n u d p. k.others s t d.stores p;
@@ -135,6 +136,7 @@ module _ (c : Config) (at : Reading) (P : State → Type 0) (k : StoreKeeps P) w
     works = λ s t o w i b d p. k.others s t d.stores p;
     leaves = λ s t o w outs i b d p. all_sent o outs t (k.others s t d.stores p);
     does = λ s t o w outs new b d p. all_sent o outs t (k.others s t d.stores p);
+    };
   }
 
 -- what has to be shown of a predicate, where others are known
@@ -157,19 +159,21 @@ pub record OwnerKeepsUnder (c : Config) (at : Reading) (S : State → Type 0) (T
 -- one predicate on another
 pub stacked : (c : Config) (at : Reading) (S : State → Type 0) (T : State → ℕ → Type 0) (P : State → Type 0) (R : State → ℕ → Type 0) → OwnerKeeps c at S T → OwnerKeepsUnder c at S T P R → OwnerKeeps c at (λ s. S s × P s) (λ s o. T s o × R s o)
 stacked c at S T P R a b = record {
-  fates = λ s m f h. (a.fates s m f h.0, b.fates s m f h.0 h.1);
   shards = λ s m shard r d h. (a.shards s m shard r d h.0, b.shards s m shard r d h.0 h.1);
   replicas = λ s m service replica r d h. (a.replicas s m service replica r d h.0, b.replicas s m service replica r d h.0 h.1);
-  again = λ s o exchange slot target r d h. (a.again s o exchange slot target r d h.0, b.again s o exchange slot target r d h.0 h.1);
-  stages = λ s t d h. (a.stages s t d h.0, b.stages s t d h.0 h.1);
-  dies = λ s t n u d h. (a.dies s t n u d h.0, b.dies s t n u d h.0 h.1);
-  begins = λ s t w y d h. (a.begins s t w y d h.0, b.begins s t w y d h.0 h.1);
-  rests = λ s t o w i y d h. (a.rests s t o w i y d h.0, b.rests s t o w i y d h.0 h.1);
-  settles = λ s o slot x shards outcome i e d h. (a.settles s o slot x shards outcome i e d h.0, b.settles s o slot x shards outcome i e d h.0 h.1);
-  settled = λ s o h. (a.settled s o h.0, b.settled s o h.0 h.1);
-  works = λ s t o w i y d h. (a.works s t o w i y d h.0, b.works s t o w i y d h.0 h.1);
-  leaves = λ s t o w outs i y d h. (a.leaves s t o w outs i y d h.0, b.leaves s t o w outs i y d h.0 h.1);
-  does = λ s t o w outs new y d h. (a.does s t o w outs new y d h.0, b.does s t o w outs new y d h.0 h.1);
+  moves = record {
+  fates = λ s m f h. (a.moves.fates s m f h.0, b.fates s m f h.0 h.1);
+  again = λ s o exchange slot target r d h. (a.moves.again s o exchange slot target r d h.0, b.again s o exchange slot target r d h.0 h.1);
+  stages = λ s t d h. (a.moves.stages s t d h.0, b.stages s t d h.0 h.1);
+  dies = λ s t n u d h. (a.moves.dies s t n u d h.0, b.dies s t n u d h.0 h.1);
+  begins = λ s t w y d h. (a.moves.begins s t w y d h.0, b.begins s t w y d h.0 h.1);
+  rests = λ s t o w i y d h. (a.moves.rests s t o w i y d h.0, b.rests s t o w i y d h.0 h.1);
+  settles = λ s o slot x shards outcome i e d h. (a.moves.settles s o slot x shards outcome i e d h.0, b.settles s o slot x shards outcome i e d h.0 h.1);
+  settled = λ s o h. (a.moves.settled s o h.0, b.settled s o h.0 h.1);
+  works = λ s t o w i y d h. (a.moves.works s t o w i y d h.0, b.works s t o w i y d h.0 h.1);
+  leaves = λ s t o w outs i y d h. (a.moves.leaves s t o w outs i y d h.0, b.leaves s t o w outs i y d h.0 h.1);
+  does = λ s t o w outs new y d h. (a.moves.does s t o w outs new y d h.0, b.does s t o w outs new y d h.0 h.1);
+  };
 }
 
 -- a request that is sent again goes where its exchange went, of the same owner
@@ -212,17 +216,17 @@ under_more c at S S' T T' P R f g b = record {
 -- two that are kept by themselves
 pub side_by_side : (c : Config) (at : Reading) (S : State → Type 0) (T : State → ℕ → Type 0) (P : State → Type 0) (R : State → ℕ → Type 0) → OwnerKeeps c at P R → OwnerKeepsUnder c at S T P R
 side_by_side c at S T P R b = record {
-  fates = λ s m x h. b.fates s m x;
+  fates = λ s m x h. b.moves.fates s m x;
   shards = λ s m shard r d h. b.shards s m shard r d;
   replicas = λ s m service replica r d h. b.replicas s m service replica r d;
-  again = λ s o exchange slot target r d h. b.again s o exchange slot target r d;
-  stages = λ s t d h. b.stages s t d;
-  dies = λ s t n u d h. b.dies s t n u d;
-  begins = λ s t w y d h. b.begins s t w y d;
-  rests = λ s t o w i y d h. b.rests s t o w i y d;
-  settles = λ s o slot x shards outcome i e d h. b.settles s o slot x shards outcome i e d;
-  settled = λ s o h. b.settled s o;
-  works = λ s t o w i y d h. b.works s t o w i y d;
-  leaves = λ s t o w outs i y d h. b.leaves s t o w outs i y d;
-  does = λ s t o w outs new y d h. b.does s t o w outs new y d;
+  again = λ s o exchange slot target r d h. b.moves.again s o exchange slot target r d;
+  stages = λ s t d h. b.moves.stages s t d;
+  dies = λ s t n u d h. b.moves.dies s t n u d;
+  begins = λ s t w y d h. b.moves.begins s t w y d;
+  rests = λ s t o w i y d h. b.moves.rests s t o w i y d;
+  settles = λ s o slot x shards outcome i e d h. b.moves.settles s o slot x shards outcome i e d;
+  settled = λ s o h. b.moves.settled s o;
+  works = λ s t o w i y d h. b.moves.works s t o w i y d;
+  leaves = λ s t o w outs i y d h. b.moves.leaves s t o w outs i y d;
+  does = λ s t o w outs new y d h. b.moves.does s t o w outs new y d;
 }
