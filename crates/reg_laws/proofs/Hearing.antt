@@ -102,7 +102,7 @@ use Rattle.world_laws.proofs.Sent.{sent_weaker}
 use Rattle.reg_laws.specs.Stored.{WasStored, IsValid, DepIsValid}
 use Rattle.reg_laws.proofs.Awaits.{Awaiting, heard_awaited}
 use Rattle.reg_laws.proofs.Base.{Known, KnownAt, sound_of}
-use Rattle.reg_laws.proofs.Valid.{HeardHolds, found_holds, hears_holds, nobody_holds, work_deps, asks_about, RoundValid, SessionValid, OwnerValid, FixValid, RequestValid, RepliesValid, ReplicasValid, ValidIn, Valid}
+use Rattle.reg_laws.proofs.Valid.{HeardHolds, found_holds, hears_holds, nobody_holds, work_deps, asks_about, AboveIn, RoundValid, SessionValid, OwnerValid, FixValid, RequestValid, RepliesValid, ReplicasValid, ValidIn, Valid}
 
 -- whether a session is done
 abbrev is_done : RegPhase → Bool
@@ -133,11 +133,10 @@ read_left net (work.Fix deps) cell agreed h = All-nil (DepIsValid net)
 read_left net (work.Read key) cell true h = All-nil (DepIsValid net)
 read_left net (work.Read key) cell false h = All-cons (DepIsValid net) (record { key = key; value = cell.value; stamp = cell.stamp; writer = cell.writer }) [] (h key refl) (All-nil (DepIsValid net))
 
-done_not_storing : (d : RegEnd) (x : Carstamp) → phase.Done d ≡ phase.Storing x → ⊥
-done_not_storing d x e = cc
-
-storing_same : (x y : Carstamp) → phase.Storing x ≡ phase.Storing y → x ≡ y
-storing_same x y e = cc
+read_above : (w : RegWork) (cell : RegReply) (agreed : Bool) → AboveIn (phase.Done (read_end w cell agreed))
+read_above (work.Read key) cell agreed = tt
+read_above (work.Write key value) cell agreed = tt
+read_above (work.Fix deps) cell agreed = tt
 
 reached_valid : (net : List Message) (r : RegSession) (p : RegPhase) → r.phase ≡ p → RoundValid net r → RoundValid net (reached r p)
 reached_valid net r phase.Fixing e h = record {
@@ -145,7 +144,7 @@ reached_valid net r phase.Fixing e h = record {
   fixes = h.fixes;
   cells = λ key cell dep i f. absurd (fixed_not_read cell dep f);
   left = All-nil (DepIsValid net);
-  above = λ x f. absurd (done_not_storing ends.Fixed x f);
+  above = tt;
 }
   where
     fixed_not_read : (cell : RegReply) (dep : Option Dep) → phase.Done ends.Fixed ≡ phase.Done (ends.Read cell dep) → ⊥
@@ -157,14 +156,14 @@ reached_valid net r phase.Asking e h =
       fixes = h.fixes;
       cells = λ key cell dep i f. subst (IsValid net key) (read_cell r.work (found_cell (greatest_heard r.round)) cell (is_agreed r.round) dep f) (found key i);
       left = read_left net r.work (found_cell (greatest_heard r.round)) (is_agreed r.round) found;
-      above = λ x f. absurd (done_not_storing _ x f);
+      above = read_above r.work (found_cell (greatest_heard r.round)) (is_agreed r.round);
     }
 reached_valid net r phase.Stamping e h = record {
   heard = λ key i. nobody_holds (IsValid net key);
   fixes = h.fixes;
   cells = λ key cell dep i f. absurd (storing_not_done _ (ends.Read cell dep) f);
   left = All-nil (DepIsValid net);
-  above = λ x f. let e = storing_same (next_stamp (found_cell (greatest_heard r.round)).stamp r.call) x f in subst (λ (z : Carstamp). 0 < z.number) e (omega arith);
+  above = omega arith;
 }
   where
     storing_not_done : (x : Carstamp) (d : RegEnd) → phase.Storing x ≡ phase.Done d → ⊥
@@ -174,7 +173,7 @@ reached_valid net r (phase.Storing stamp) e h = record {
   fixes = h.fixes;
   cells = λ key cell dep i f. absurd (written_not_read stamp cell dep f);
   left = All-nil (DepIsValid net);
-  above = λ x f. absurd (done_not_storing (ends.Written stamp) x f);
+  above = subst AboveIn e h.above;
 }
   where
     written_not_read : (x : Carstamp) (cell : RegReply) (dep : Option Dep) → phase.Done (ends.Written x) ≡ phase.Done (ends.Read cell dep) → ⊥
@@ -211,7 +210,7 @@ opening_valid net c s o w id d = record {
   fixes = d;
   cells = λ key cell dep e f. absurd (first_not_done w (ends.Read cell dep) f);
   left = first_left w;
-  above = λ x f. absurd (first_not_storing w x f);
+  above = first_above w;
 }
   where
     plain : (x : RegPhase) (d : RegEnd) → is_done x ≡ false → x ≡ phase.Done d → ⊥
@@ -225,19 +224,10 @@ opening_valid net c s o w id d = record {
     first_not_done : (w : RegWork) (d : RegEnd) → first_phase w ≡ phase.Done d → ⊥
     first_not_done w d e = plain (first_phase w) d (first_plain w) e
 
-    first_not_storing : (w : RegWork) (x : Carstamp) → first_phase w ≡ phase.Storing x → ⊥
-    first_not_storing (work.Fix deps) x e = absurd (fixing_not_storing x e)
-      where
-        fixing_not_storing : (x : Carstamp) → phase.Fixing ≡ phase.Storing x → ⊥
-        fixing_not_storing x e = cc
-    first_not_storing (work.Read key) x e = absurd (asking_not_storing x e)
-      where
-        asking_not_storing : (x : Carstamp) → phase.Asking ≡ phase.Storing x → ⊥
-        asking_not_storing x e = cc
-    first_not_storing (work.Write key value) x e = absurd (stamping_not_storing x e)
-      where
-        stamping_not_storing : (x : Carstamp) → phase.Stamping ≡ phase.Storing x → ⊥
-        stamping_not_storing x e = cc
+    first_above : (w : RegWork) → AboveIn (first_phase w)
+    first_above (work.Fix deps) = tt
+    first_above (work.Read key) = tt
+    first_above (work.Write key value) = tt
 
     first_left : (w : RegWork) → All (DepIsValid net) (phase_deps (first_phase w))
     first_left (work.Fix deps) = All-nil (DepIsValid net)

@@ -9,3 +9,4 @@ pub mod Shapes
 pub mod Proves
 pub mod Rounds
 pub mod Since
+pub mod Dates

@@ -177,13 +177,23 @@ asks_about (request.Inquire attempt) = None
 asks_about (request.Release attempt time last) = None
 asks_about (request.Snapshot read_time least keys skip) = None
 
+-- the stamp that a phase stores or has stored is above the opening one
+abbrev pub AboveIn : RegPhase → Type 0
+AboveIn phase.Fixing = ⊤
+AboveIn phase.Asking = ⊤
+AboveIn phase.Stamping = ⊤
+AboveIn (phase.Storing stamp) = 0 < stamp.number
+AboveIn (phase.Done (ends.Written stamp)) = 0 < stamp.number
+AboveIn (phase.Done (ends.Read cell dep)) = ⊤
+AboveIn (phase.Done ends.Fixed) = ⊤
+
 -- what a round has heard, works on and leaves was stored
 pub record RoundValid (net : List Message) (r : RegSession) : Type 0 where
   pub heard : (key : Key) → work_key r.work ≡ Some key → All (HeardHolds (IsValid net key)) r.round.heard
   pub fixes : All (DepIsValid net) (work_deps r.work)
   pub cells : (key : Key) (cell : RegReply) (dep : Option Dep) → work_key r.work ≡ Some key → r.phase ≡ phase.Done (ends.Read cell dep) → IsValid net key cell
   pub left : All (DepIsValid net) (phase_deps r.phase)
-  pub above : (stamp : Carstamp) → r.phase ≡ phase.Storing stamp → 0 < stamp.number
+  pub above : AboveIn r.phase
 
 abbrev pub SessionValid : List Message → Session → Type 0
 SessionValid net (session.Fixing r) = RoundValid net r

@@ -121,13 +121,13 @@ use Rattle.reg_laws.proofs.Stores.{stamps_run}
 use Rattle.reg_laws.proofs.Awaits.{Awaiting, set_there, nobody_sends, beginning_idle}
 use Rattle.reg_laws.proofs.Base.{Known, KnownAt, sound_of, named_of, fine_of, at_rest, known_run}
 use Rattle.reg_laws.proofs.Hearing.{session_valid, leaving_valid, working_valid, resting_valid, doing_valid, new_valid}
-use Rattle.reg_laws.proofs.Valid.{Grows, grows_more, grows_meets, valid_grows, request_grows, work_deps, asks_about, RoundValid, SessionValid, OwnerValid, FixValid, RequestValid, RepliesValid, ReplicasValid, ValidIn, Valid, valid_more}
+use Rattle.reg_laws.proofs.Valid.{Grows, grows_more, grows_meets, valid_grows, request_grows, work_deps, asks_about, AboveIn, RoundValid, SessionValid, OwnerValid, FixValid, RequestValid, RepliesValid, ReplicasValid, ValidIn, Valid, valid_more}
 
 -- what a phase asks to store was stored
 phase_valid : (net : List Message) (r : RegSession) (q : Request) → RoundValid net r → phase_request r.call r.work r.phase ≡ Some q → FixValid net q
 phase_valid net r q h a = by_work r.work r.phase h.fixes h.above a
   where
-    by_work : (w : RegWork) (p : RegPhase) → All (DepIsValid net) (work_deps w) → ((x : Carstamp) → p ≡ phase.Storing x → 0 < x.number) → phase_request r.call w p ≡ Some q → FixValid net q
+    by_work : (w : RegWork) (p : RegPhase) → All (DepIsValid net) (work_deps w) → AboveIn p → phase_request r.call w p ≡ Some q → FixValid net q
     by_work (work.Fix deps) phase.Fixing k l a = subst (FixValid net) (some_is (request.Fix deps) q a) k
     by_work (work.Fix deps) phase.Asking k l a = absurd (none_is_not q a)
     by_work (work.Fix deps) phase.Stamping k l a = absurd (none_is_not q a)
@@ -141,7 +141,7 @@ phase_valid net r q h a = by_work r.work r.phase h.fixes h.above a
     by_work (work.Write key value) phase.Fixing k l a = absurd (none_is_not q a)
     by_work (work.Write key value) phase.Asking k l a = absurd (none_is_not q a)
     by_work (work.Write key value) phase.Stamping k l a = subst (FixValid net) (some_is (request.Stamp key) q a) tt
-    by_work (work.Write key value) (phase.Storing stamp) k l a = subst (FixValid net) (some_is (request.Store key value stamp r.call) q a) (l stamp refl)
+    by_work (work.Write key value) (phase.Storing stamp) k l a = subst (FixValid net) (some_is (request.Store key value stamp r.call) q a) l
     by_work (work.Write key value) (phase.Done end) k l a = absurd (none_is_not q a)
 
 round_valid_out : (net : List Message) (o : ℕ) (r : RegSession) (out : Out) → RoundValid net r → RoundOut r out → RequestValid net o out.target out.request
