@@ -279,7 +279,7 @@ pub heard_asked : (s : State) (o slot : ℕ) (r : Reply) (f : RegSession) (d : H
 heard_asked s o slot r f d (inl x) h = subst (λ (y : Session). IsAwaited s.net o y slot (message_at s.net d.number).envelope.exchange) x (heard_awaited s o slot r d (h.each o))
 heard_asked s o slot r f d (inr x) h = subst (λ (y : Session). IsAwaited s.net o y slot (message_at s.net d.number).envelope.exchange) x (heard_awaited s o slot r d (h.each o))
 
-round_valid : (c : Config) (net : List Message) (s : State) (o : ℕ) (f : RegSession) → IsRound (session_at s o) f → ValidIn c net s → RoundValid net f
+pub round_valid : (c : Config) (net : List Message) (s : State) (o : ℕ) (f : RegSession) → IsRound (session_at s o) f → ValidIn c net s → RoundValid net f
 round_valid c net s o f (inl x) h = subst (SessionValid net) x (session_valid c net s o h)
 round_valid c net s o f (inr x) h = subst (SessionValid net) x (session_valid c net s o h)
 

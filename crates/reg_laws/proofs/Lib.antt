@@ -10,3 +10,4 @@ pub mod Proves
 pub mod Rounds
 pub mod Since
 pub mod Dates
+pub mod Above

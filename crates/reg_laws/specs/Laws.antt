@@ -8,6 +8,7 @@ use Rattle.world_laws.specs.Registers.{NamesRegisters}
 use Rattle.reg_laws.specs.Stored.{StampsName, HoldsStored}
 use Rattle.reg_laws.specs.Files.{IsInOrder}
 use Rattle.reg_laws.specs.Told.{RepliesProve, RepliesTell}
+use Rattle.reg_laws.specs.Rounds.{EndsHeld, RoundsSee, SeesSteps}
 use Rattle.reg_laws.specs.Awaited.{CurrentsAwaited, RepliesAreOwn}
 
 -- each current exchange is awaited
@@ -34,3 +35,16 @@ RepliesProveHolding = (c : Config) (steps : List Step) (s : State) → IsInOrder
 abbrev pub RepliesTellOfBefore : Type 0
 RepliesTellOfBefore =
     (c : Config) (steps more : List Step) (u s : State) → run c steps ≡ Some u → run c (steps ++ more) ≡ Some s → RepliesTell u s
+
+-- what a call ends with is held
+abbrev pub EndsAreHeld : Type 0
+EndsAreHeld = (c : Config) (steps : List Step) (s : State) → IsInOrder c → run c steps ≡ Some s → EndsHeld s
+
+-- a call finds what a majority held before its own first round
+abbrev pub RoundsSeeWhatWasHeld : Type 0
+RoundsSeeWhatWasHeld =
+    (c : Config) (steps more : List Step) (u s : State) → IsInOrder c → run c steps ≡ Some u → run c (steps ++ more) ≡ Some s → RoundsSee u s
+
+-- a call sees each stamp whose step is not later than that of its own first round
+abbrev pub RoundsSeeSteps : Type 0
+RoundsSeeSteps = (c : Config) (steps : List Step) (s : State) → IsInOrder c → run c steps ≡ Some s → SeesSteps c steps s

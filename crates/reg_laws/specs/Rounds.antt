@@ -1,6 +1,6 @@
 -- What rounds that have reached a majority leave: what a call ends with a majority holds, and a call finds
 -- what a majority held before it sent its own first round.
-use Rattle.std.specs.Prelude.{◌≡◌, ℕ, ◌<◌, true, Some, None, Option}
+use Rattle.std.specs.Prelude.{◌≡◌, ℕ, ◌<◌, ◌≤◌, true, List, Some, None, Option}
 use Rattle.rss_names.specs.declared.service.Key.{Key}
 use Rattle.carstamps.specs.declared.carstamp.Carstamp.{Carstamp}
 use Rattle.carstamps.specs.Stamp.{stamp_le, stamp_lt}
@@ -11,6 +11,9 @@ use Rattle.rss_tables.specs.declared.register_session.RegEnd.TheVariants as ends
 use Rattle.rss_tables.specs.declared.register_session.RegPhase.{RegPhase}
 use Rattle.rss_tables.specs.declared.register_session.RegPhase.TheVariants as phase
 use Rattle.rss_tables.specs.declared.register_session.RegWork.TheVariants as work
+use Rattle.pipeline_lang.specs.declared.config.Config.{Config}
+use Rattle.rss_machine.specs.Times.{step_of_stamp}
+use Rattle.rss_machine.specs.declared.step.Step.{Step}
 use Rattle.rss_machine.specs.Marks.{is_held}
 use Rattle.rss_machine.specs.State.{State, owner_at, replicas_at}
 use Rattle.rss_machine.specs.declared.session.Session.TheVariants as session
@@ -42,3 +45,10 @@ pub record RoundsSee (u s : State) : Type 0 where
   pub stored : (o : ℕ) (key : Key) (value : ℕ) (stamp held : Carstamp) → u.steps < (owner_at s o).dates.launched → Writes s o key value (phase.Storing stamp) → is_held (replicas_at u key.service) key held ≡ true → stamp_lt held stamp ≡ true
   pub written : (o : ℕ) (key : Key) (value : ℕ) (stamp held : Carstamp) → u.steps < (owner_at s o).dates.launched → Writes s o key value (phase.Done (ends.Written stamp)) → is_held (replicas_at u key.service) key held ≡ true → stamp_lt held stamp ≡ true
   pub read : (o : ℕ) (key : Key) (cell : RegReply) (dep : Option Dep) (held : Carstamp) → u.steps < (owner_at s o).dates.launched → Reads s o key (phase.Done (ends.Read cell dep)) → is_held (replicas_at u key.service) key held ≡ true → stamp_le held cell.stamp ≡ true
+
+-- a call sees each stamp whose step is not later than that of its own first round: a write's stamp is above
+-- it, and a read's is not below it
+pub record SeesSteps (c : Config) (steps : List Step) (s : State) : Type 0 where
+  pub stored : (o : ℕ) (key : Key) (value : ℕ) (stamp other : Carstamp) → Writes s o key value (phase.Storing stamp) → step_of_stamp c steps key other ≤ (owner_at s o).dates.launched → stamp_lt other stamp ≡ true
+  pub written : (o : ℕ) (key : Key) (value : ℕ) (stamp other : Carstamp) → Writes s o key value (phase.Done (ends.Written stamp)) → step_of_stamp c steps key other ≤ (owner_at s o).dates.launched → stamp_lt other stamp ≡ true
+  pub read : (o : ℕ) (key : Key) (cell : RegReply) (dep : Option Dep) (other : Carstamp) → Reads s o key (phase.Done (ends.Read cell dep)) → step_of_stamp c steps key other ≤ (owner_at s o).dates.launched → stamp_le other cell.stamp ≡ true

@@ -1,6 +1,6 @@
 //! The laws of rounds. They hold no code: each is the contract of a function that does nothing.
 
-ghost use Rattle.reg_laws.specs.Laws.{CurrentsAreAwaited, HeardRepliesAreOwn, StampsAreUnique, WhatIsHeldWasStored, RepliesProveHolding, RepliesTellOfBefore};
+ghost use Rattle.reg_laws.specs.Laws.{CurrentsAreAwaited, HeardRepliesAreOwn, StampsAreUnique, WhatIsHeldWasStored, RepliesProveHolding, RepliesTellOfBefore, EndsAreHeld, RoundsSeeWhatWasHeld, RoundsSeeSteps};
 
 /// In every run each current exchange of an owner is one that it awaits: with a round under way it is
 /// the owner's request of the round's phase to the replica of its slot, and an owner with nothing
@@ -41,4 +41,24 @@ pub fn replies_prove_holding()
 /// at least the stamp that the replica held in it.
 pub fn replies_tell_of_before()
     ensures { RepliesTellOfBefore }
+{}
+
+/// In every run of a file in order: where a write has ended, a majority of its register's replicas holds,
+/// now and later, its stamp or a greater one; where a read has ended, a majority holds the stamp that it
+/// read, or the read has left what it read as a dependency.
+pub fn ends_are_held()
+    ensures { EndsAreHeld }
+{}
+
+/// From one state of a run to every later one: a call that has sent its own first round since finds
+/// every stamp that a majority of its register's replicas held in the first. A write's stamp is above it,
+/// and a read's is not below it.
+pub fn rounds_see_what_was_held()
+    ensures { RoundsSeeWhatWasHeld }
+{}
+
+/// In every run of a file in order a call sees every stamp of its register whose step is not later than
+/// that of its own first round: a write's stamp is above it, and a read's is not below it.
+pub fn rounds_see_steps()
+    ensures { RoundsSeeSteps }
 {}

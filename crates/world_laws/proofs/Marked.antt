@@ -390,15 +390,15 @@ not_noted None e = refl
 not_noted (Some n) e = absurd (true≢false e)
 
 -- the first step after which a majority holds a stamp that was not noted before
-first_one : (c : Config) (s : State) (step : Step) (steps : List Step) (key : Key) (z : Carstamp) → is_held (replicas_at (stepped c s step) key.service) key z ≡ true → first_held c s (step ∷ steps) key z ≡ 1
+pub first_one : (c : Config) (s : State) (step : Step) (steps : List Step) (key : Key) (z : Carstamp) → is_held (replicas_at (stepped c s step) key.service) key z ≡ true → first_held c s (step ∷ steps) key z ≡ 1
 unfolding first_held
 first_one c s step steps key z e = ap (λ (t : Bool). if t then 1 else suc (first_held c (stepped c s step) steps key z)) e
 
-first_more : (c : Config) (s : State) (step : Step) (steps : List Step) (key : Key) (z : Carstamp) → is_held (replicas_at (stepped c s step) key.service) key z ≡ false → first_held c s (step ∷ steps) key z ≡ suc (first_held c (stepped c s step) steps key z)
+pub first_more : (c : Config) (s : State) (step : Step) (steps : List Step) (key : Key) (z : Carstamp) → is_held (replicas_at (stepped c s step) key.service) key z ≡ false → first_held c s (step ∷ steps) key z ≡ suc (first_held c (stepped c s step) steps key z)
 unfolding first_held
 first_more c s step steps key z e = ap (λ (t : Bool). if t then 1 else suc (first_held c (stepped c s step) steps key z)) e
 
-first_none : (c : Config) (s : State) (key : Key) (z : Carstamp) → first_held c s [] key z ≡ 1
+pub first_none : (c : Config) (s : State) (key : Key) (z : Carstamp) → first_held c s [] key z ≡ 1
 unfolding first_held
 first_none c s key z = refl
 

@@ -30,12 +30,12 @@ unfolding run_from
 run_none c u s e = some_is u s e
 
 -- a step that is not refused, before a run
-run_before : (c : Config) (u : State) (step : Step) (steps : List Step) (s : State) → refusal c u step ≡ None → run_from c (stepped c u step) steps ≡ Some s → run_from c u (step ∷ steps) ≡ Some s
+pub run_before : (c : Config) (u : State) (step : Step) (steps : List Step) (s : State) → refusal c u step ≡ None → run_from c (stepped c u step) steps ≡ Some s → run_from c u (step ∷ steps) ≡ Some s
 unfolding run_from
 run_before c u step steps s r e = rw r e
 
 -- the run of no steps
-run_ends : (c : Config) (u : State) → run_from c u [] ≡ Some u
+pub run_ends : (c : Config) (u : State) → run_from c u [] ≡ Some u
 unfolding run_from
 run_ends c u = refl
 
@@ -90,3 +90,8 @@ steps_keep c P f (step ∷ steps) u s e h = let t = run_rest c u step steps s e 
 pub run_keeps : (c : Config) (P : State → Type 0) → ((s : State) (step : Step) → refusal c s step ≡ None → P s → P (stepped c s step)) → P (start c) → (steps : List Step) (s : State) → run c steps ≡ Some s → P s
 unfolding run
 run_keeps c P f h steps s e = steps_keep c P f steps (start c) s e h
+
+-- a run is one from the beginning
+pub run_is : (c : Config) (steps : List Step) (s : State) → run_from c (start c) steps ≡ Some s → run c steps ≡ Some s
+unfolding run
+run_is c steps s e = e

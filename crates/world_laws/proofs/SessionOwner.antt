@@ -177,17 +177,17 @@ module _ (c : Config) (at : Reading) (P : State → Type 0) (k : SessionKeeps c 
     shards = λ s m shard r d p. k.shards s m shard at.latest r d p;
     replicas = k.replicas;
     moves = record {
-    fates = k.fates;
-    again = k.again;
-    stages = λ s t d p. k.others s t d.stores (same_sessions s t d.owned) p;
-    dies = λ s t n u d p. k.others s t d.stores (grown_sessions s t _ refl d.owned) p;
-    begins = λ s t w b d p. k.others s t d.stores (grown_sessions s t w (beginning_idle s w b) d.owned) p;
-    rests = λ s t o w i b d p. session_rests s t o w b d p;
-    settles = λ s o slot a shards outcome i e d p. session_settles s o slot a shards outcome e p;
-    settled = λ s o p. p;
-    works = λ s t o w i b d p. session_works s t o w b d p;
-    leaves = λ s t o w outs i b d p. session_leaves s t o w outs b d p;
-    does = λ s t o w outs new b d p. session_does s t o w outs new b d p;
+      fates = k.fates;
+      again = k.again;
+      stages = λ s t d p. k.others s t d.stores (same_sessions s t d.owned) p;
+      dies = λ s t n u d p. k.others s t d.stores (grown_sessions s t _ refl d.owned) p;
+      begins = λ s t w b d p. k.others s t d.stores (grown_sessions s t w (beginning_idle s w b) d.owned) p;
+      rests = λ s t o w i b d p. session_rests s t o w b d p;
+      settles = λ s o slot a shards outcome i e d p. session_settles s o slot a shards outcome e p;
+      settled = λ s o p. p;
+      works = λ s t o w i b d p. session_works s t o w b d p;
+      leaves = λ s t o w outs i b d p. session_leaves s t o w outs b d p;
+      does = λ s t o w outs new b d p. session_does s t o w outs new b d p;
     };
   }
     where

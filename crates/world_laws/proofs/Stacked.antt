@@ -122,20 +122,20 @@ module _ (c : Config) (at : Reading) (P : State → Type 0) (k : StoreKeeps P) w
     shards = λ s m shard r d p. k.shards s m shard at.latest r d p;
     replicas = k.replicas;
     moves = record {
-    fates = k.fates;
-    again = λ s o exchange slot target r d p. k.sends s o (record { slot = Some slot; target = target; request = r }) p;
-    stages = λ s t d p. k.others s t d.stores p;
-    dies = λ s t n u d p. k.others s t d.stores p;
-    begins = λ s t w b d p. k.others s t d.stores p;
-    rests = λ s t o w i b d p. k.others s t d.stores p;
-    settles = λ s o slot a shards outcome i e d p.
-        let u = sends (listens s o slot) o (tells_decision a outcome shards) in
-        k.others u (plans_stub u o) (record { steps = refl; moment = refl; moments = refl; net = refl; shards = refl; replicas = refl; marks = refl })
-        (all_sent o (tells_decision a outcome shards) (listens s o slot) (k.others s (listens s o slot) (record { steps = refl; moment = refl; moments = refl; net = refl; shards = refl; replicas = refl; marks = refl }) p));
-    settled = λ s o p. p;
-    works = λ s t o w i b d p. k.others s t d.stores p;
-    leaves = λ s t o w outs i b d p. all_sent o outs t (k.others s t d.stores p);
-    does = λ s t o w outs new b d p. all_sent o outs t (k.others s t d.stores p);
+      fates = k.fates;
+      again = λ s o exchange slot target r d p. k.sends s o (record { slot = Some slot; target = target; request = r }) p;
+      stages = λ s t d p. k.others s t d.stores p;
+      dies = λ s t n u d p. k.others s t d.stores p;
+      begins = λ s t w b d p. k.others s t d.stores p;
+      rests = λ s t o w i b d p. k.others s t d.stores p;
+      settles = λ s o slot a shards outcome i e d p.
+          let u = sends (listens s o slot) o (tells_decision a outcome shards) in
+          k.others u (plans_stub u o) (record { steps = refl; moment = refl; moments = refl; net = refl; shards = refl; replicas = refl; marks = refl })
+          (all_sent o (tells_decision a outcome shards) (listens s o slot) (k.others s (listens s o slot) (record { steps = refl; moment = refl; moments = refl; net = refl; shards = refl; replicas = refl; marks = refl }) p));
+      settled = λ s o p. p;
+      works = λ s t o w i b d p. k.others s t d.stores p;
+      leaves = λ s t o w outs i b d p. all_sent o outs t (k.others s t d.stores p);
+      does = λ s t o w outs new b d p. all_sent o outs t (k.others s t d.stores p);
     };
   }
 
@@ -162,17 +162,17 @@ stacked c at S T P R a b = record {
   shards = λ s m shard r d h. (a.shards s m shard r d h.0, b.shards s m shard r d h.0 h.1);
   replicas = λ s m service replica r d h. (a.replicas s m service replica r d h.0, b.replicas s m service replica r d h.0 h.1);
   moves = record {
-  fates = λ s m f h. (a.moves.fates s m f h.0, b.fates s m f h.0 h.1);
-  again = λ s o exchange slot target r d h. (a.moves.again s o exchange slot target r d h.0, b.again s o exchange slot target r d h.0 h.1);
-  stages = λ s t d h. (a.moves.stages s t d h.0, b.stages s t d h.0 h.1);
-  dies = λ s t n u d h. (a.moves.dies s t n u d h.0, b.dies s t n u d h.0 h.1);
-  begins = λ s t w y d h. (a.moves.begins s t w y d h.0, b.begins s t w y d h.0 h.1);
-  rests = λ s t o w i y d h. (a.moves.rests s t o w i y d h.0, b.rests s t o w i y d h.0 h.1);
-  settles = λ s o slot x shards outcome i e d h. (a.moves.settles s o slot x shards outcome i e d h.0, b.settles s o slot x shards outcome i e d h.0 h.1);
-  settled = λ s o h. (a.moves.settled s o h.0, b.settled s o h.0 h.1);
-  works = λ s t o w i y d h. (a.moves.works s t o w i y d h.0, b.works s t o w i y d h.0 h.1);
-  leaves = λ s t o w outs i y d h. (a.moves.leaves s t o w outs i y d h.0, b.leaves s t o w outs i y d h.0 h.1);
-  does = λ s t o w outs new y d h. (a.moves.does s t o w outs new y d h.0, b.does s t o w outs new y d h.0 h.1);
+    fates = λ s m f h. (a.moves.fates s m f h.0, b.fates s m f h.0 h.1);
+    again = λ s o exchange slot target r d h. (a.moves.again s o exchange slot target r d h.0, b.again s o exchange slot target r d h.0 h.1);
+    stages = λ s t d h. (a.moves.stages s t d h.0, b.stages s t d h.0 h.1);
+    dies = λ s t n u d h. (a.moves.dies s t n u d h.0, b.dies s t n u d h.0 h.1);
+    begins = λ s t w y d h. (a.moves.begins s t w y d h.0, b.begins s t w y d h.0 h.1);
+    rests = λ s t o w i y d h. (a.moves.rests s t o w i y d h.0, b.rests s t o w i y d h.0 h.1);
+    settles = λ s o slot x shards outcome i e d h. (a.moves.settles s o slot x shards outcome i e d h.0, b.settles s o slot x shards outcome i e d h.0 h.1);
+    settled = λ s o h. (a.moves.settled s o h.0, b.settled s o h.0 h.1);
+    works = λ s t o w i y d h. (a.moves.works s t o w i y d h.0, b.works s t o w i y d h.0 h.1);
+    leaves = λ s t o w outs i y d h. (a.moves.leaves s t o w outs i y d h.0, b.leaves s t o w outs i y d h.0 h.1);
+    does = λ s t o w outs new y d h. (a.moves.does s t o w outs new y d h.0, b.does s t o w outs new y d h.0 h.1);
   };
 }
 
