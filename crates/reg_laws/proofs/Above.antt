@@ -312,7 +312,7 @@ opening_least z stamp e = grind (arith, nat_tests)
 
 -- a stamp of a call's round is above the opening one
 above_opening : (c : Config) (n : IsInOrder c) (s : State) (o : ℕ) (r : RegSession) (p : RegPhase) → Settled c n s → session_at s o ≡ session.Register r → r.phase ≡ p → AboveIn p
-above_opening c n s o r p h x e = subst AboveIn e (round_valid c s.net s o r (inr x) h.0.0.0.1).above
+above_opening c n s o r p h x e = subst AboveIn e (round_valid c s s o r (inr x) h.0.0.0.1).above
 
 -- by the step of a stamp
 below_by : (c : Config) (steps : List Step) (key : Key) (z stamp : Carstamp) (launched : ℕ) → 0 < stamp.number → (first_held c (start c) steps key z ≤ launched → stamp_lt z stamp ≡ true) → step_of_stamp c steps key z ≤ launched → stamp_lt z stamp ≡ true

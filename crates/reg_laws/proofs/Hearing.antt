@@ -127,86 +127,86 @@ read_cell (work.Fix deps) cell other agreed dep e = read_same cell other None de
     read_same : (a b : RegReply) (d f : Option Dep) → phase.Done (ends.Read a d) ≡ phase.Done (ends.Read b f) → a ≡ b
     read_same a b d f e = cc
 
-read_left : (net : List Message) (w : RegWork) (cell : RegReply) (agreed : Bool) → ((key : Key) → work_key w ≡ Some key → IsValid net key cell) → All (DepIsValid net) (end_deps (read_end w cell agreed))
-read_left net (work.Write key value) cell agreed h = All-nil (DepIsValid net)
-read_left net (work.Fix deps) cell agreed h = All-nil (DepIsValid net)
-read_left net (work.Read key) cell true h = All-nil (DepIsValid net)
-read_left net (work.Read key) cell false h = All-cons (DepIsValid net) (record { key = key; value = cell.value; stamp = cell.stamp; writer = cell.writer }) [] (h key refl) (All-nil (DepIsValid net))
+read_left : (known : State) (w : RegWork) (cell : RegReply) (agreed : Bool) → ((key : Key) → work_key w ≡ Some key → IsValid known key cell) → All (DepIsValid known) (end_deps (read_end w cell agreed))
+read_left known (work.Write key value) cell agreed h = All-nil (DepIsValid known)
+read_left known (work.Fix deps) cell agreed h = All-nil (DepIsValid known)
+read_left known (work.Read key) cell true h = All-nil (DepIsValid known)
+read_left known (work.Read key) cell false h = All-cons (DepIsValid known) (record { key = key; value = cell.value; stamp = cell.stamp; writer = cell.writer }) [] (h key refl) (All-nil (DepIsValid known))
 
 read_above : (w : RegWork) (cell : RegReply) (agreed : Bool) → AboveIn (phase.Done (read_end w cell agreed))
 read_above (work.Read key) cell agreed = tt
 read_above (work.Write key value) cell agreed = tt
 read_above (work.Fix deps) cell agreed = tt
 
-reached_valid : (net : List Message) (r : RegSession) (p : RegPhase) → r.phase ≡ p → RoundValid net r → RoundValid net (reached r p)
-reached_valid net r phase.Fixing e h = record {
+reached_valid : (known : State) (r : RegSession) (p : RegPhase) → r.phase ≡ p → RoundValid known r → RoundValid known (reached r p)
+reached_valid known r phase.Fixing e h = record {
   heard = h.heard;
   fixes = h.fixes;
   cells = λ key cell dep i f. absurd (fixed_not_read cell dep f);
-  left = All-nil (DepIsValid net);
+  left = All-nil (DepIsValid known);
   above = tt;
 }
   where
     fixed_not_read : (cell : RegReply) (dep : Option Dep) → phase.Done ends.Fixed ≡ phase.Done (ends.Read cell dep) → ⊥
     fixed_not_read cell dep e = cc
-reached_valid net r phase.Asking e h =
-    let found : (key : Key) → work_key r.work ≡ Some key → IsValid net key (found_cell (greatest_heard r.round)) = λ key i. found_holds (IsValid net key) r.round (inl refl) (h.heard key i) in
+reached_valid known r phase.Asking e h =
+    let found : (key : Key) → work_key r.work ≡ Some key → IsValid known key (found_cell (greatest_heard r.round)) = λ key i. found_holds (IsValid known key) r.round (inl refl) (h.heard key i) in
     record {
       heard = h.heard;
       fixes = h.fixes;
-      cells = λ key cell dep i f. subst (IsValid net key) (read_cell r.work (found_cell (greatest_heard r.round)) cell (is_agreed r.round) dep f) (found key i);
-      left = read_left net r.work (found_cell (greatest_heard r.round)) (is_agreed r.round) found;
+      cells = λ key cell dep i f. subst (IsValid known key) (read_cell r.work (found_cell (greatest_heard r.round)) cell (is_agreed r.round) dep f) (found key i);
+      left = read_left known r.work (found_cell (greatest_heard r.round)) (is_agreed r.round) found;
       above = read_above r.work (found_cell (greatest_heard r.round)) (is_agreed r.round);
     }
-reached_valid net r phase.Stamping e h = record {
-  heard = λ key i. nobody_holds (IsValid net key);
+reached_valid known r phase.Stamping e h = record {
+  heard = λ key i. nobody_holds (IsValid known key);
   fixes = h.fixes;
   cells = λ key cell dep i f. absurd (storing_not_done _ (ends.Read cell dep) f);
-  left = All-nil (DepIsValid net);
+  left = All-nil (DepIsValid known);
   above = omega arith;
 }
   where
     storing_not_done : (x : Carstamp) (d : RegEnd) → phase.Storing x ≡ phase.Done d → ⊥
     storing_not_done x d e = cc
-reached_valid net r (phase.Storing stamp) e h = record {
+reached_valid known r (phase.Storing stamp) e h = record {
   heard = h.heard;
   fixes = h.fixes;
   cells = λ key cell dep i f. absurd (written_not_read stamp cell dep f);
-  left = All-nil (DepIsValid net);
+  left = All-nil (DepIsValid known);
   above = subst AboveIn e h.above;
 }
   where
     written_not_read : (x : Carstamp) (cell : RegReply) (dep : Option Dep) → phase.Done (ends.Written x) ≡ phase.Done (ends.Read cell dep) → ⊥
     written_not_read x cell dep e = cc
-reached_valid net r (phase.Done end) e h = h
+reached_valid known r (phase.Done end) e h = h
 
-after_valid : (net : List Message) (f : RegSession) (from : ℕ) (r : Reply) → ((key : Key) → work_key f.work ≡ Some key → IsValid net key (reply_cell r)) → RoundValid net f → RoundValid net (session_after f from r)
-after_valid net f from r v h = cond_both (is_reached g.round) (reached g f.phase) g (RoundValid net) (λ t. reached_valid net g f.phase refl heard) (λ t. heard)
+after_valid : (known : State) (f : RegSession) (from : ℕ) (r : Reply) → ((key : Key) → work_key f.work ≡ Some key → IsValid known key (reply_cell r)) → RoundValid known f → RoundValid known (session_after f from r)
+after_valid known f from r v h = cond_both (is_reached g.round) (reached g f.phase) g (RoundValid known) (λ t. reached_valid known g f.phase refl heard) (λ t. heard)
   where
     g : RegSession
     g = record f { round = hears f.round from (reply_cell r) }
 
-    heard : RoundValid net g
+    heard : RoundValid known g
     heard = record {
-      heard = λ key e. hears_holds (IsValid net key) f.round from (reply_cell r) (v key e) (h.heard key e);
+      heard = λ key e. hears_holds (IsValid known key) f.round from (reply_cell r) (v key e) (h.heard key e);
       fixes = h.fixes;
       cells = h.cells;
       left = h.left;
       above = h.above;
     }
 
-without_valid : (net : List Message) (x : Session) (id : ServiceId) (replica : ℕ) → SessionValid net x → SessionValid net (session_without x (Replica id replica))
-without_valid net (session.Fixing r) id replica h = cond_both (same_service r.service id) _ r (RoundValid net) (λ t. record { heard = h.heard; fixes = h.fixes; cells = h.cells; left = h.left; above = h.above }) (λ t. h)
-without_valid net (session.Register r) id replica h = cond_both (same_service r.service id) _ r (RoundValid net) (λ t. record { heard = h.heard; fixes = h.fixes; cells = h.cells; left = h.left; above = h.above }) (λ t. h)
-without_valid net session.Idle id replica h = tt
-without_valid net (session.Transaction t) id replica h = tt
-without_valid net (session.Snapshot t) id replica h = tt
-without_valid net (session.Settling attempt shards) id replica h = tt
+without_valid : (known : State) (x : Session) (id : ServiceId) (replica : ℕ) → SessionValid known x → SessionValid known (session_without x (Replica id replica))
+without_valid known (session.Fixing r) id replica h = cond_both (same_service r.service id) _ r (RoundValid known) (λ t. record { heard = h.heard; fixes = h.fixes; cells = h.cells; left = h.left; above = h.above }) (λ t. h)
+without_valid known (session.Register r) id replica h = cond_both (same_service r.service id) _ r (RoundValid known) (λ t. record { heard = h.heard; fixes = h.fixes; cells = h.cells; left = h.left; above = h.above }) (λ t. h)
+without_valid known session.Idle id replica h = tt
+without_valid known (session.Transaction t) id replica h = tt
+without_valid known (session.Snapshot t) id replica h = tt
+without_valid known (session.Settling attempt shards) id replica h = tt
 
 -- a round that begins
-opening_valid : (net : List Message) (c : Config) (s : State) (o : ℕ) (w : RegWork) (id : ServiceId) → All (DepIsValid net) (work_deps w) → RoundValid net (session_for c s o w id)
-opening_valid net c s o w id d = record {
-  heard = λ key e. nobody_holds (IsValid net key);
+opening_valid : (known : State) (c : Config) (s : State) (o : ℕ) (w : RegWork) (id : ServiceId) → All (DepIsValid known) (work_deps w) → RoundValid known (session_for c s o w id)
+opening_valid known c s o w id d = record {
+  heard = λ key e. nobody_holds (IsValid known key);
   fixes = d;
   cells = λ key cell dep e f. absurd (first_not_done w (ends.Read cell dep) f);
   left = first_left w;
@@ -229,14 +229,14 @@ opening_valid net c s o w id d = record {
     first_above (work.Read key) = tt
     first_above (work.Write key value) = tt
 
-    first_left : (w : RegWork) → All (DepIsValid net) (phase_deps (first_phase w))
-    first_left (work.Fix deps) = All-nil (DepIsValid net)
-    first_left (work.Read key) = All-nil (DepIsValid net)
-    first_left (work.Write key value) = All-nil (DepIsValid net)
+    first_left : (w : RegWork) → All (DepIsValid known) (phase_deps (first_phase w))
+    first_left (work.Fix deps) = All-nil (DepIsValid known)
+    first_left (work.Read key) = All-nil (DepIsValid known)
+    first_left (work.Write key value) = All-nil (DepIsValid known)
 
 -- an owner that is there, and its session
-pub session_valid : (c : Config) (net : List Message) (s : State) (o : ℕ) → ValidIn c net s → SessionValid net (session_at s o)
-session_valid c net s o h = at_place (OwnerValid net) s.owners o no_owner tt h.owners
+pub session_valid : (c : Config) (known : State) (s : State) (o : ℕ) → ValidIn c known s → SessionValid known (session_at s o)
+session_valid c known s o h = at_place (OwnerValid known) s.owners o no_owner tt h.owners
 
 -- a heard reply is of what was stored
 phase_about : (call : ℕ) (w : RegWork) (p : RegPhase) (q : Request) (key : Key) → phase_request call w p ≡ Some q → work_key w ≡ Some key → asks_about q ≡ Some key
@@ -252,13 +252,13 @@ phase_about call (work.Write k value) phase.Stamping q key a b = subst (λ (r : 
 phase_about call (work.Write k value) (phase.Storing stamp) q key a b = subst (λ (r : Request). asks_about r ≡ Some key) (some_is (request.Store k value stamp call) q a) b
 phase_about call (work.Write k value) (phase.Done end) q key a b = absurd (none_is_not q a)
 
-heard_valid : (c : Config) (s : State) (o slot : ℕ) (r : Reply) (f : RegSession) (key : Key) (d : Heard s o slot r) → IsAsked s.net o f slot (message_at s.net d.number).envelope.exchange → work_key f.work ≡ Some key → Sound s → Valid c s → IsValid s.net key (reply_cell r)
+heard_valid : (c : Config) (s : State) (o slot : ℕ) (r : Reply) (f : RegSession) (key : Key) (d : Heard s o slot r) → IsAsked s.net o f slot (message_at s.net d.number).envelope.exchange → work_key f.work ≡ Some key → Sound s → Valid c s → IsValid s key (reply_cell r)
 heard_valid c s o slot r f key d a e g h = by_reply r d.says
   where
     target : (message_at s.net d.number).envelope.target ≡ Replica f.service (slot_replica slot)
     target = (g.sound d.number d.numbered d.sent).target ∙ a.target
 
-    by_reply : (p : Reply) → (message_at s.net d.number).body ≡ body.Reply p → IsValid s.net key (reply_cell p)
+    by_reply : (p : Reply) → (message_at s.net d.number).body ≡ body.Reply p → IsValid s key (reply_cell p)
     by_reply (reply.Held value stamp writer) b = h.replies.each d.number value writer (slot_replica slot) stamp f.service a.request key d.numbered d.sent target b a.says (phase_about f.call f.work f.phase a.request key a.of_phase e)
     by_reply reply.Fixed b = inl refl
     by_reply reply.Stored b = inl refl
@@ -279,76 +279,76 @@ pub heard_asked : (s : State) (o slot : ℕ) (r : Reply) (f : RegSession) (d : H
 heard_asked s o slot r f d (inl x) h = subst (λ (y : Session). IsAwaited s.net o y slot (message_at s.net d.number).envelope.exchange) x (heard_awaited s o slot r d (h.each o))
 heard_asked s o slot r f d (inr x) h = subst (λ (y : Session). IsAwaited s.net o y slot (message_at s.net d.number).envelope.exchange) x (heard_awaited s o slot r d (h.each o))
 
-pub round_valid : (c : Config) (net : List Message) (s : State) (o : ℕ) (f : RegSession) → IsRound (session_at s o) f → ValidIn c net s → RoundValid net f
-round_valid c net s o f (inl x) h = subst (SessionValid net) x (session_valid c net s o h)
-round_valid c net s o f (inr x) h = subst (SessionValid net) x (session_valid c net s o h)
+pub round_valid : (c : Config) (known : State) (s : State) (o : ℕ) (f : RegSession) → IsRound (session_at s o) f → ValidIn c known s → RoundValid known f
+round_valid c known s o f (inl x) h = subst (SessionValid known) x (session_valid c known s o h)
+round_valid c known s o f (inr x) h = subst (SessionValid known) x (session_valid c known s o h)
 
-hearing_valid : (c : Config) (s : State) (o slot : ℕ) (r : Reply) (f : RegSession) → Heard s o slot r → IsRound (session_at s o) f → Known c s → Valid c s → RoundValid s.net (session_after f (slot_replica slot) r)
-hearing_valid c s o slot r f d x g h = after_valid s.net f (slot_replica slot) r (λ key e. heard_valid c s o slot r f key d (heard_asked s o slot r f d x g.1) e (sound_of c s g) h) (round_valid c s.net s o f x h)
+hearing_valid : (c : Config) (s : State) (o slot : ℕ) (r : Reply) (f : RegSession) → Heard s o slot r → IsRound (session_at s o) f → Known c s → Valid c s → RoundValid s (session_after f (slot_replica slot) r)
+hearing_valid c s o slot r f d x g h = after_valid s f (slot_replica slot) r (λ key e. heard_valid c s o slot r f key d (heard_asked s o slot r f d x g.1) e (sound_of c s g) h) (round_valid c s s o f x h)
 
 -- owners go on with what was stored
-pub leaving_valid : (c : Config) (at : Reading) (s : State) (o : ℕ) (w : Owner) (outs : List Out) → Leaving c at s o w outs → Valid c s → OwnerValid s.net w
-leaving_valid c at s o _ _ (waits id time rest l) h = session_valid c s.net s o h
-leaving_valid c at s o _ _ (fixes_work id rest l) h = opening_valid s.net c s o _ id (of_hold (DepIsValid s.net) id (owner_at s o).works.copy.deps (copy_holds (DepIsValid s.net) s o h.deps))
-leaving_valid c at s o _ _ (fixes_own x dep deps l e d) h = opening_valid s.net c s o _ (service_of x) (of_hold (DepIsValid s.net) (service_of x) (owner_at s o).works.copy.deps (copy_holds (DepIsValid s.net) s o h.deps))
-leaving_valid c at s o _ _ (asks_register key l e d) h = opening_valid s.net c s o (work.Read key) key.service (All-nil (DepIsValid s.net))
-leaving_valid c at s o _ _ (stamps_register key value l e d) h = opening_valid s.net c s o (work.Write key value) key.service (All-nil (DepIsValid s.net))
+pub leaving_valid : (c : Config) (at : Reading) (s : State) (o : ℕ) (w : Owner) (outs : List Out) → Leaving c at s o w outs → Valid c s → OwnerValid s w
+leaving_valid c at s o _ _ (waits id time rest l) h = session_valid c s s o h
+leaving_valid c at s o _ _ (fixes_work id rest l) h = opening_valid s c s o _ id (of_hold (DepIsValid s) id (owner_at s o).works.copy.deps (copy_holds (DepIsValid s) s o h.deps))
+leaving_valid c at s o _ _ (fixes_own x dep deps l e d) h = opening_valid s c s o _ (service_of x) (of_hold (DepIsValid s) (service_of x) (owner_at s o).works.copy.deps (copy_holds (DepIsValid s) s o h.deps))
+leaving_valid c at s o _ _ (asks_register key l e d) h = opening_valid s c s o (work.Read key) key.service (All-nil (DepIsValid s))
+leaving_valid c at s o _ _ (stamps_register key value l e d) h = opening_valid s c s o (work.Write key value) key.service (All-nil (DepIsValid s))
 leaving_valid c at s o _ _ (begins_snapshot keys t l e d) h = tt
 leaving_valid c at s o _ _ (begins_txn reads guard writes t l e d) h = tt
-leaving_valid c at s o _ _ (fence_done l e) h = session_valid c s.net s o h
-leaving_valid c at s o _ _ (stub_done u l e) h = session_valid c s.net s o h
+leaving_valid c at s o _ _ (fence_done l e) h = session_valid c s s o h
+leaving_valid c at s o _ _ (stub_done u l e) h = session_valid c s s o h
 
-pub working_valid : (at : Reading) (s : State) (o : ℕ) (w : Owner) (net : List Message) → Working at s o w → OwnerValid net (owner_at s o) → OwnerValid net w
-working_valid at s o _ net (owes_nothing id rest l) h = tt
-working_valid at s o _ net (is_past id time rest l e) h = tt
-working_valid at s o _ net (enters_own x l e f) h = h
+pub working_valid : (at : Reading) (s : State) (o : ℕ) (w : Owner) (known : State) → Working at s o w → OwnerValid known (owner_at s o) → OwnerValid known w
+working_valid at s o _ known (owes_nothing id rest l) h = tt
+working_valid at s o _ known (is_past id time rest l e) h = tt
+working_valid at s o _ known (enters_own x l e f) h = h
 
-pub resting_valid : (s : State) (o : ℕ) (w : Owner) (net : List Message) → Resting s o w → OwnerValid net w
-resting_valid s o _ net (plans e b) = tt
-resting_valid s o _ net (past id x rest time l e) = tt
-resting_valid s o _ net (fixed id x rest r e l a b d) = tt
-resting_valid s o _ net (cleared r e l a b d) = tt
+pub resting_valid : (s : State) (o : ℕ) (w : Owner) (known : State) → Resting s o w → OwnerValid known w
+resting_valid s o _ known (plans e b) = tt
+resting_valid s o _ known (past id x rest time l e) = tt
+resting_valid s o _ known (fixed id x rest r e l a b d) = tt
+resting_valid s o _ known (cleared r e l a b d) = tt
 
-turning_valid : (s : State) (o : ℕ) (x : Session) (outs : List Out) (net : List Message) → ShardTurning s o x outs → SessionValid net x
-turning_valid s o _ _ net (txn_heard t l at r e) = tt
-turning_valid s o _ _ net (txn_woken t l e) = tt
-turning_valid s o _ _ net (txn_passed t e) = tt
-turning_valid s o _ _ net (snap_heard t l r e) = tt
-turning_valid s o _ _ net (snap_woken t l e) = tt
+turning_valid : (s : State) (o : ℕ) (x : Session) (outs : List Out) (known : State) → ShardTurning s o x outs → SessionValid known x
+turning_valid s o _ _ known (txn_heard t l at r e) = tt
+turning_valid s o _ _ known (txn_woken t l e) = tt
+turning_valid s o _ _ known (txn_passed t e) = tt
+turning_valid s o _ _ known (snap_heard t l r e) = tt
+turning_valid s o _ _ known (snap_woken t l e) = tt
 
-pub doing_valid : (c : Config) (s : State) (o : ℕ) (w : Owner) (outs : List Out) (new : List Dep) → Doing s o w outs new → Known c s → Valid c s → OwnerValid s.net w
-doing_valid c s o _ _ _ (listens_one slot r d) g h = session_valid c s.net s o h
+pub doing_valid : (c : Config) (s : State) (o : ℕ) (w : Owner) (outs : List Out) (new : List Dep) → Doing s o w outs new → Known c s → Valid c s → OwnerValid s w
+doing_valid c s o _ _ _ (listens_one slot r d) g h = session_valid c s s o h
 doing_valid c s o _ _ _ (fix_hears f slot r x d e) g h = hearing_valid c s o slot r f d (inl x) g h
 doing_valid c s o _ _ _ (fix_reached f slot r y x d e) g h = hearing_valid c s o slot r f d (inl x) g h
 doing_valid c s o _ _ _ (register_hears f slot r x d a e) g h = hearing_valid c s o slot r f d (inr x) g h
 doing_valid c s o _ _ _ (register_stores f slot r x d a e) g h = hearing_valid c s o slot r f d (inr x) g h
 doing_valid c s o _ _ _ (register_reached f slot r y x d e) g h = hearing_valid c s o slot r f d (inr x) g h
-doing_valid c s o _ _ _ (read_ends f key cell dep x a b) g h = session_valid c s.net s o h
-doing_valid c s o _ _ _ (write_ends f key value e x a b) g h = session_valid c s.net s o h
-doing_valid c s o _ _ _ (txn_ends y t time a b d) g h = session_valid c s.net s o h
-doing_valid c s o _ _ _ (snap_ends y t time a b d) g h = session_valid c s.net s o h
-doing_valid c s o _ _ _ (counts_one target) g h = session_valid c s.net s o h
-doing_valid c s o _ _ _ (cuts_one id replica) g h = without_valid s.net (session_at s o) id replica (session_valid c s.net s o h)
-doing_valid c s o _ _ _ (is_closed f) g h = session_valid c s.net s o h
-doing_valid c s o _ _ _ forgets_all g h = session_valid c s.net s o h
-doing_valid c s o _ _ _ (turns x outs y) g h = turning_valid s o x outs s.net y
+doing_valid c s o _ _ _ (read_ends f key cell dep x a b) g h = session_valid c s s o h
+doing_valid c s o _ _ _ (write_ends f key value e x a b) g h = session_valid c s s o h
+doing_valid c s o _ _ _ (txn_ends y t time a b d) g h = session_valid c s s o h
+doing_valid c s o _ _ _ (snap_ends y t time a b d) g h = session_valid c s s o h
+doing_valid c s o _ _ _ (counts_one target) g h = session_valid c s s o h
+doing_valid c s o _ _ _ (cuts_one id replica) g h = without_valid s (session_at s o) id replica (session_valid c s s o h)
+doing_valid c s o _ _ _ (is_closed f) g h = session_valid c s s o h
+doing_valid c s o _ _ _ forgets_all g h = session_valid c s s o h
+doing_valid c s o _ _ _ (turns x outs y) g h = turning_valid s o x outs s y
 doing_valid c s o _ _ _ (stub_asks attempt shards e b) g h = tt
 
 -- the dependencies that are new were stored
-pub new_valid : (c : Config) (s : State) (o : ℕ) (w : Owner) (outs : List Out) (new : List Dep) → Doing s o w outs new → Valid c s → All (DepIsValid s.net) new
-new_valid c s o _ _ _ (listens_one slot r d) h = All-nil (DepIsValid s.net)
-new_valid c s o _ _ _ (fix_hears f slot r x d e) h = All-nil (DepIsValid s.net)
-new_valid c s o _ _ _ (fix_reached f slot r y x d e) h = All-nil (DepIsValid s.net)
-new_valid c s o _ _ _ (register_hears f slot r x d a e) h = All-nil (DepIsValid s.net)
-new_valid c s o _ _ _ (register_stores f slot r x d a e) h = All-nil (DepIsValid s.net)
-new_valid c s o _ _ _ (register_reached f slot r y x d e) h = All-nil (DepIsValid s.net)
-new_valid c s o _ _ _ (read_ends f key cell dep x a b) h = subst (λ (p : RegPhase). All (DepIsValid s.net) (phase_deps p)) b (round_valid c s.net s o f (inr x) h).left
-new_valid c s o _ _ _ (write_ends f key value e x a b) h = All-nil (DepIsValid s.net)
-new_valid c s o _ _ _ (txn_ends y t time a b d) h = All-nil (DepIsValid s.net)
-new_valid c s o _ _ _ (snap_ends y t time a b d) h = All-nil (DepIsValid s.net)
-new_valid c s o _ _ _ (counts_one target) h = All-nil (DepIsValid s.net)
-new_valid c s o _ _ _ (cuts_one id replica) h = All-nil (DepIsValid s.net)
-new_valid c s o _ _ _ (is_closed f) h = All-nil (DepIsValid s.net)
-new_valid c s o _ _ _ forgets_all h = All-nil (DepIsValid s.net)
-new_valid c s o _ _ _ (turns x outs y) h = All-nil (DepIsValid s.net)
-new_valid c s o _ _ _ (stub_asks attempt shards e b) h = All-nil (DepIsValid s.net)
+pub new_valid : (c : Config) (s : State) (o : ℕ) (w : Owner) (outs : List Out) (new : List Dep) → Doing s o w outs new → Valid c s → All (DepIsValid s) new
+new_valid c s o _ _ _ (listens_one slot r d) h = All-nil (DepIsValid s)
+new_valid c s o _ _ _ (fix_hears f slot r x d e) h = All-nil (DepIsValid s)
+new_valid c s o _ _ _ (fix_reached f slot r y x d e) h = All-nil (DepIsValid s)
+new_valid c s o _ _ _ (register_hears f slot r x d a e) h = All-nil (DepIsValid s)
+new_valid c s o _ _ _ (register_stores f slot r x d a e) h = All-nil (DepIsValid s)
+new_valid c s o _ _ _ (register_reached f slot r y x d e) h = All-nil (DepIsValid s)
+new_valid c s o _ _ _ (read_ends f key cell dep x a b) h = subst (λ (p : RegPhase). All (DepIsValid s) (phase_deps p)) b (round_valid c s s o f (inr x) h).left
+new_valid c s o _ _ _ (write_ends f key value e x a b) h = All-nil (DepIsValid s)
+new_valid c s o _ _ _ (txn_ends y t time a b d) h = All-nil (DepIsValid s)
+new_valid c s o _ _ _ (snap_ends y t time a b d) h = All-nil (DepIsValid s)
+new_valid c s o _ _ _ (counts_one target) h = All-nil (DepIsValid s)
+new_valid c s o _ _ _ (cuts_one id replica) h = All-nil (DepIsValid s)
+new_valid c s o _ _ _ (is_closed f) h = All-nil (DepIsValid s)
+new_valid c s o _ _ _ forgets_all h = All-nil (DepIsValid s)
+new_valid c s o _ _ _ (turns x outs y) h = All-nil (DepIsValid s)
+new_valid c s o _ _ _ (stub_asks attempt shards e b) h = All-nil (DepIsValid s)

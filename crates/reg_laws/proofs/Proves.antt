@@ -196,7 +196,7 @@ served_there all x i cells l = ap (λ (rows : List (List RegReply)). get_or rows
 record Serving (c : Config) (s : State) (id : ServiceId) (replica : ℕ) (r : Request) : Type 0 where
   holds : All (HoldsAtLeast s id (replica - 1)) (asked_to_hold r)
 
-serving : (c : Config) (s : State) (m replica : ℕ) (id : ServiceId) (r : Request) → IsInOrder c → Serves s m r (Replica id replica) → ServedWell c s.net id r → Shapes c s → Serving c (serves_replica s m id replica r) id replica r
+serving : (c : Config) (s : State) (m replica : ℕ) (id : ServiceId) (r : Request) → IsInOrder c → Serves s m r (Replica id replica) → ServedWell c s (message_at s.net m).envelope.owner id r → Shapes c s → Serving c (serves_replica s m id replica r) id replica r
 serving c s m replica id r n d w h = record { holds = first_named (λ (key : Key). IsRegister c key × (id ≡ key.service)) (All (HoldsAtLeast t id (replica - 1)) (asked_to_hold r)) r named by_key by_none }
   where
     t : State

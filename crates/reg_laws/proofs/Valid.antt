@@ -101,7 +101,7 @@ use Rattle.world_laws.specs.Registers.{IsRegister}
 use Rattle.world_laws.proofs.Contexts.{deps_weaker}
 use Rattle.world_laws.proofs.Named.{phase_deps}
 use Rattle.world_laws.proofs.Sent.{sent_weaker}
-use Rattle.reg_laws.specs.Stored.{WasStored, IsValid, DepIsValid}
+use Rattle.reg_laws.specs.Stored.{WasStored, WasHandled, IsValid, DepIsValid}
 
 -- a net that has grown: what was sent keeps its outside and what it says
 pub record Grows (net more : List Message) : Type 0 where
@@ -128,9 +128,15 @@ stored_grows net more key cell g h = record {
   says = g.bodies h.number h.sent ∙ h.says;
 }
 
-pub valid_grows : (net more : List Message) (key : Key) (cell : RegReply) → Grows net more → IsValid net key cell → IsValid more key cell
-valid_grows net more key cell g (inl e) = inl e
-valid_grows net more key cell g (inr h) = inr (stored_grows net more key cell g h)
+-- what is known in a state is known in another
+pub record Grown (known after : State) : Type 0 where
+  pub nets : Grows known.net after.net
+  pub owners : length known.owners ≤ length after.owners
+  pub handled : (o : ℕ) → (owner_at known o).stored ≡ true → (owner_at after o).stored ≡ true
+
+pub valid_grows : (known after : State) (key : Key) (cell : RegReply) → Grown known after → IsValid known key cell → IsValid after key cell
+valid_grows known after key cell g (inl e) = inl e
+valid_grows known after key cell g (inr h) = inr (record { stored = stored_grows known.net after.net key cell g.nets h.stored; handled = g.handled cell.writer h.handled })
 
 -- what is true of each cell that was heard
 abbrev pub HeardHolds : (RegReply → Type 0) → Option RegReply → Type 0
@@ -188,103 +194,106 @@ AboveIn (phase.Done (ends.Read cell dep)) = ⊤
 AboveIn (phase.Done ends.Fixed) = ⊤
 
 -- what a round has heard, works on and leaves was stored
-pub record RoundValid (net : List Message) (r : RegSession) : Type 0 where
-  pub heard : (key : Key) → work_key r.work ≡ Some key → All (HeardHolds (IsValid net key)) r.round.heard
-  pub fixes : All (DepIsValid net) (work_deps r.work)
-  pub cells : (key : Key) (cell : RegReply) (dep : Option Dep) → work_key r.work ≡ Some key → r.phase ≡ phase.Done (ends.Read cell dep) → IsValid net key cell
-  pub left : All (DepIsValid net) (phase_deps r.phase)
+pub record RoundValid (known : State) (r : RegSession) : Type 0 where
+  pub heard : (key : Key) → work_key r.work ≡ Some key → All (HeardHolds (IsValid known key)) r.round.heard
+  pub fixes : All (DepIsValid known) (work_deps r.work)
+  pub cells : (key : Key) (cell : RegReply) (dep : Option Dep) → work_key r.work ≡ Some key → r.phase ≡ phase.Done (ends.Read cell dep) → IsValid known key cell
+  pub left : All (DepIsValid known) (phase_deps r.phase)
   pub above : AboveIn r.phase
 
-abbrev pub SessionValid : List Message → Session → Type 0
-SessionValid net (session.Fixing r) = RoundValid net r
-SessionValid net (session.Register r) = RoundValid net r
-SessionValid net session.Idle = ⊤
-SessionValid net (session.Transaction t) = ⊤
-SessionValid net (session.Snapshot t) = ⊤
-SessionValid net (session.Settling attempt shards) = ⊤
+abbrev pub SessionValid : State → Session → Type 0
+SessionValid known (session.Fixing r) = RoundValid known r
+SessionValid known (session.Register r) = RoundValid known r
+SessionValid known session.Idle = ⊤
+SessionValid known (session.Transaction t) = ⊤
+SessionValid known (session.Snapshot t) = ⊤
+SessionValid known (session.Settling attempt shards) = ⊤
 
-abbrev pub OwnerValid : List Message → Owner → Type 0
-OwnerValid net w = SessionValid net w.session
+abbrev pub OwnerValid : State → Owner → Type 0
+OwnerValid known w = SessionValid known w.session
 
 -- what a round of dependencies asks replicas to store was stored, and a call stores no opening stamp
-abbrev pub FixValid : List Message → Request → Type 0
-FixValid net (request.Fix deps) = All (DepIsValid net) deps
-FixValid net (request.Ask key) = ⊤
-FixValid net (request.Stamp key) = ⊤
-FixValid net (request.Store key value stamp writer) = 0 < stamp.number
-FixValid net (request.Lock attempt coordinator reads writes) = ⊤
-FixValid net (request.Prepare attempt least earliest_end writes) = ⊤
-FixValid net (request.Decide attempt commit time) = ⊤
-FixValid net (request.Commit attempt commit_time) = ⊤
-FixValid net (request.Abort attempt) = ⊤
-FixValid net (request.Inquire attempt) = ⊤
-FixValid net (request.Release attempt time last) = ⊤
-FixValid net (request.Snapshot read_time least keys skip) = ⊤
+abbrev pub FixValid : State → Request → Type 0
+FixValid known (request.Fix deps) = All (DepIsValid known) deps
+FixValid known (request.Ask key) = ⊤
+FixValid known (request.Stamp key) = ⊤
+FixValid known (request.Store key value stamp writer) = 0 < stamp.number
+FixValid known (request.Lock attempt coordinator reads writes) = ⊤
+FixValid known (request.Prepare attempt least earliest_end writes) = ⊤
+FixValid known (request.Decide attempt commit time) = ⊤
+FixValid known (request.Commit attempt commit_time) = ⊤
+FixValid known (request.Abort attempt) = ⊤
+FixValid known (request.Inquire attempt) = ⊤
+FixValid known (request.Release attempt time last) = ⊤
+FixValid known (request.Snapshot read_time least keys skip) = ⊤
 
-abbrev pub RequestValid : List Message → ℕ → Target → Request → Type 0
-RequestValid net o (Shard n) r = ⊤
-RequestValid net o (Replica service replica) r = FixValid net r
+abbrev pub RequestValid : State → ℕ → Target → Request → Type 0
+RequestValid known o (Shard n) r = ⊤
+RequestValid known o (Replica service replica) r = FixValid known r × (o < length known.owners)
 
 -- what a replica shows of a register was stored
-pub record RepliesValid (net sent : List Message) : Type 0 where
+pub record RepliesValid (known : State) (sent : List Message) : Type 0 where
   pub each : (m value writer replica : ℕ) (stamp : Carstamp) (service : ServiceId) (q : Request) (key : Key) → 0 < m → m < length sent → (message_at sent m).envelope.target ≡ Replica service replica → (message_at sent m).body ≡ body.Reply (reply.Held value stamp writer)
-      → (message_at sent (message_at sent m).envelope.exchange).body ≡ body.Request q → asks_about q ≡ Some key → IsValid net key (record { value = value; stamp = stamp; writer = writer })
+      → (message_at sent (message_at sent m).envelope.exchange).body ≡ body.Request q → asks_about q ≡ Some key → IsValid known key (record { value = value; stamp = stamp; writer = writer })
 
-pub record ReplicasValid (c : Config) (net : List Message) (replicas : List (List (List RegReply))) : Type 0 where
-  pub each : (key : Key) (place : ℕ) → IsRegister c key → IsValid net key (held_at (get_or (get_or replicas (service_index key.service) []) place []) key)
+pub record ReplicasValid (c : Config) (known : State) (replicas : List (List (List RegReply))) : Type 0 where
+  pub each : (key : Key) (place : ℕ) → IsRegister c key → IsValid known key (held_at (get_or (get_or replicas (service_index key.service) []) place []) key)
 
 -- all that stands in a state was stored, by what was sent
-pub record ValidIn (c : Config) (net : List Message) (s : State) : Type 0 where
-  pub owners : All (OwnerValid net) s.owners
-  pub deps : AllDeps (DepIsValid net) s
-  pub messages : SentAll (RequestValid net) s.net
-  pub replies : RepliesValid net s.net
-  pub replicas : ReplicasValid c net s.replicas
+pub record ValidIn (c : Config) (known : State) (s : State) : Type 0 where
+  pub owners : All (OwnerValid known) s.owners
+  pub deps : AllDeps (DepIsValid known) s
+  pub messages : SentAll (RequestValid known) s.net
+  pub replies : RepliesValid known s.net
+  pub replicas : ReplicasValid c known s.replicas
 
 abbrev pub Valid : Config → State → Type 0
-Valid c s = ValidIn c s.net s
+Valid c s = ValidIn c s s
 
--- what was stored stays so where the net grows
-dep_grows : (net more : List Message) → Grows net more → (dep : Dep) → DepIsValid net dep → DepIsValid more dep
-dep_grows net more g dep h = valid_grows net more dep.key (dep_cell dep) g h
+-- what was stored stays so where the known grows
+pub dep_grows : (known after : State) → Grown known after → (dep : Dep) → DepIsValid known dep → DepIsValid after dep
+dep_grows known after g dep h = valid_grows known after dep.key (dep_cell dep) g h
 
-round_grows : (net more : List Message) → Grows net more → (r : RegSession) → RoundValid net r → RoundValid more r
-round_grows net more g r h = record {
-  heard = λ key e. All-weaker (HeardHolds (IsValid net key)) (HeardHolds (IsValid more key)) (λ q f cell d. valid_grows net more key cell g (f cell d)) r.round.heard (h.heard key e);
-  fixes = All-weaker (DepIsValid net) (DepIsValid more) (dep_grows net more g) (work_deps r.work) h.fixes;
-  cells = λ key cell dep e f. valid_grows net more key cell g (h.cells key cell dep e f);
-  left = All-weaker (DepIsValid net) (DepIsValid more) (dep_grows net more g) (phase_deps r.phase) h.left;
+round_grows : (known after : State) → Grown known after → (r : RegSession) → RoundValid known r → RoundValid after r
+round_grows known after g r h = record {
+  heard = λ key e. All-weaker (HeardHolds (IsValid known key)) (HeardHolds (IsValid after key)) (λ q f cell d. valid_grows known after key cell g (f cell d)) r.round.heard (h.heard key e);
+  fixes = All-weaker (DepIsValid known) (DepIsValid after) (dep_grows known after g) (work_deps r.work) h.fixes;
+  cells = λ key cell dep e f. valid_grows known after key cell g (h.cells key cell dep e f);
+  left = All-weaker (DepIsValid known) (DepIsValid after) (dep_grows known after g) (phase_deps r.phase) h.left;
   above = h.above;
 }
 
-session_grows : (net more : List Message) → Grows net more → (x : Session) → SessionValid net x → SessionValid more x
-session_grows net more g (session.Fixing r) h = round_grows net more g r h
-session_grows net more g (session.Register r) h = round_grows net more g r h
-session_grows net more g session.Idle h = tt
-session_grows net more g (session.Transaction t) h = tt
-session_grows net more g (session.Snapshot t) h = tt
-session_grows net more g (session.Settling attempt shards) h = tt
+pub session_grows : (known after : State) → Grown known after → (x : Session) → SessionValid known x → SessionValid after x
+session_grows known after g (session.Fixing r) h = round_grows known after g r h
+session_grows known after g (session.Register r) h = round_grows known after g r h
+session_grows known after g session.Idle h = tt
+session_grows known after g (session.Transaction t) h = tt
+session_grows known after g (session.Snapshot t) h = tt
+session_grows known after g (session.Settling attempt shards) h = tt
 
-pub request_grows : (net more : List Message) → Grows net more → (o : ℕ) (t : Target) (r : Request) → RequestValid net o t r → RequestValid more o t r
-request_grows net more g o (Shard n) r h = tt
-request_grows net more g o (Replica service replica) (request.Fix deps) h = All-weaker (DepIsValid net) (DepIsValid more) (dep_grows net more g) deps h
-request_grows net more g o (Replica service replica) (request.Ask key) h = tt
-request_grows net more g o (Replica service replica) (request.Stamp key) h = tt
-request_grows net more g o (Replica service replica) (request.Store key value stamp writer) h = h
-request_grows net more g o (Replica service replica) (request.Lock attempt coordinator reads writes) h = tt
-request_grows net more g o (Replica service replica) (request.Prepare attempt least earliest_end writes) h = tt
-request_grows net more g o (Replica service replica) (request.Decide attempt commit time) h = tt
-request_grows net more g o (Replica service replica) (request.Commit attempt commit_time) h = tt
-request_grows net more g o (Replica service replica) (request.Abort attempt) h = tt
-request_grows net more g o (Replica service replica) (request.Inquire attempt) h = tt
-request_grows net more g o (Replica service replica) (request.Release attempt time last) h = tt
-request_grows net more g o (Replica service replica) (request.Snapshot read_time least keys skip) h = tt
+pub fix_grows : (known after : State) → Grown known after → (r : Request) → FixValid known r → FixValid after r
+fix_grows known after g (request.Fix deps) h = All-weaker (DepIsValid known) (DepIsValid after) (dep_grows known after g) deps h
+fix_grows known after g (request.Ask key) h = tt
+fix_grows known after g (request.Stamp key) h = tt
+fix_grows known after g (request.Store key value stamp writer) h = h
+fix_grows known after g (request.Lock attempt coordinator reads writes) h = tt
+fix_grows known after g (request.Prepare attempt least earliest_end writes) h = tt
+fix_grows known after g (request.Decide attempt commit time) h = tt
+fix_grows known after g (request.Commit attempt commit_time) h = tt
+fix_grows known after g (request.Abort attempt) h = tt
+fix_grows known after g (request.Inquire attempt) h = tt
+fix_grows known after g (request.Release attempt time last) h = tt
+fix_grows known after g (request.Snapshot read_time least keys skip) h = tt
 
-pub valid_more : (c : Config) (net more : List Message) (s : State) → Grows net more → ValidIn c net s → ValidIn c more s
-valid_more c net more s g h = record {
-  owners = All-weaker (OwnerValid net) (OwnerValid more) (λ w. session_grows net more g w.session) s.owners h.owners;
-  deps = deps_weaker (DepIsValid net) (DepIsValid more) (dep_grows net more g) s h.deps;
-  messages = sent_weaker (RequestValid net) (RequestValid more) (request_grows net more g) s.net h.messages;
-  replies = record { each = λ m value writer replica stamp service q key z l t b a e. valid_grows net more key _ g (h.replies.each m value writer replica stamp service q key z l t b a e) };
-  replicas = record { each = λ key place i. valid_grows net more key _ g (h.replicas.each key place i) };
+pub request_grows : (known after : State) → Grown known after → (o : ℕ) (t : Target) (r : Request) → RequestValid known o t r → RequestValid after o t r
+request_grows known after g o (Shard n) r h = tt
+request_grows known after g o (Replica service replica) r h = (fix_grows known after g r h.0, let a = g.owners in let b = h.1 in omega (arith, a, b))
+
+pub valid_more : (c : Config) (known after : State) (s : State) → Grown known after → ValidIn c known s → ValidIn c after s
+valid_more c known after s g h = record {
+  owners = All-weaker (OwnerValid known) (OwnerValid after) (λ w. session_grows known after g w.session) s.owners h.owners;
+  deps = deps_weaker (DepIsValid known) (DepIsValid after) (dep_grows known after g) s h.deps;
+  messages = sent_weaker (RequestValid known) (RequestValid after) (request_grows known after g) s.net h.messages;
+  replies = record { each = λ m value writer replica stamp service q key z l t b a e. valid_grows known after key _ g (h.replies.each m value writer replica stamp service q key z l t b a e) };
+  replicas = record { each = λ key place i. valid_grows known after key _ g (h.replicas.each key place i) };
 }

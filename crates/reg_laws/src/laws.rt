@@ -25,7 +25,8 @@ pub fn stamps_are_unique()
 
 /// In every run of a file whose scripts name its registers, what a replica holds of a register, what any
 /// context depends on, wherever it lies, and what a round of dependencies stores is the opening value or
-/// what a call stored of that very register; and values of one register with one stamp are the same.
+/// what a call stored of that very register, in a store that some replica has handled; and values of one
+/// register with one stamp are the same.
 pub fn what_is_held_was_stored()
     ensures { WhatIsHeldWasStored }
 {}
