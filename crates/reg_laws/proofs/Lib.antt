@@ -11,3 +11,4 @@ pub mod Rounds
 pub mod Since
 pub mod Dates
 pub mod Above
+pub mod OwnStamps

@@ -3,4 +3,5 @@ pub mod Stored
 pub mod Files
 pub mod Told
 pub mod Rounds
+pub mod Line
 pub mod Laws

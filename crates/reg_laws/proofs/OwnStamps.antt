@@ -1,0 +1,280 @@
+-- The stamp that a call stores, or has stored, is of that call.
+use Rattle.std.proofs.Common.{◌≡◌, ℕ, zero, suc, ◌<◌, ◌≤◌, Bool, true, false, List, [], ◌∷◌, ◌++◌, All, map, length, get_or, Option, Some, None, refl, ap, sym, ◌∙◌, subst, arith}
+use Rattle.std.specs.Prelude.{⊤}
+use Rattle.std.proofs.Math.ListN.{set}
+use Rattle.std.proofs.lemmas.Bool.{cond_both}
+use Rattle.std.proofs.lemmas.List.Elements.{All-cons, All-nil, All-head, All-set, All-push, All-map, All-weaker}
+use Rattle.truetime.specs.Reading.{Reading}
+use Rattle.rss_names.specs.declared.attempt.Attempt.{Attempt}
+use Rattle.rss_names.specs.declared.service.Key.{Key}
+use Rattle.rss_names.specs.declared.service.ServiceId.{ServiceId}
+use Rattle.rss_names.specs.declared.service.Target.{Target}
+use Rattle.rss_names.specs.declared.service.Target.TheVariants.{Shard, Replica}
+use Rattle.rss_names.specs.Services.{same_service}
+use Rattle.causal_context.specs.declared.dep.Dep.{Dep}
+use Rattle.causal_context.specs.Deps.{deps_of, given_dep}
+use Rattle.pipeline_lang.specs.declared.config.Config.{Config}
+use Rattle.pipeline_lang.specs.declared.script.Statement.{Statement}
+use Rattle.pipeline_lang.specs.declared.script.Statement.TheVariants as statement
+use Rattle.pipeline_lang.specs.Config.{statement_at}
+use Rattle.rss_model.specs.CallStatement.{op_of_statement}
+use Rattle.rss_model.specs.declared.op.Op.{Op}
+use Rattle.rss_model.specs.declared.op.Op.TheVariants as op
+use Rattle.rss_wire.specs.Messages.{message_at}
+use Rattle.rss_wire.specs.declared.message.Body.TheVariants as body
+use Rattle.rss_wire.specs.declared.message.Message.{Message}
+use Rattle.rss_wire.specs.declared.messages.Outcome.{Outcome}
+use Rattle.rss_wire.specs.declared.messages.RegReply.{RegReply}
+use Rattle.rss_wire.specs.declared.messages.Reply.{Reply}
+use Rattle.rss_wire.specs.declared.messages.Reply.TheVariants as reply
+use Rattle.rss_wire.specs.declared.messages.Request.{Request}
+use Rattle.rss_wire.specs.declared.messages.Request.TheVariants as request
+use Rattle.rss_tables.specs.Lines.{tells_decision}
+use Rattle.rss_tables.specs.Outs.{Out}
+use Rattle.rss_tables.specs.RegisterSession.{RegSession, phase_request, session_after, reached, reply_cell, read_end, read_dep, found_cell}
+use Rattle.rss_tables.specs.Round.{Round, was_heard, hears, is_reached, greatest_heard, is_agreed}
+use Rattle.rss_tables.specs.declared.register_session.RegEnd.{RegEnd}
+use Rattle.rss_tables.specs.declared.register_session.RegEnd.TheVariants as ends
+use Rattle.rss_tables.specs.declared.register_session.RegPhase.{RegPhase}
+use Rattle.rss_tables.specs.declared.register_session.RegPhase.TheVariants as phase
+use Rattle.rss_tables.specs.declared.register_session.RegWork.{RegWork}
+use Rattle.rss_tables.specs.declared.register_session.RegWork.TheVariants as work
+use Rattle.rss_machine.specs.Calls.{session_for}
+use Rattle.rss_machine.specs.Effect.{stepped}
+use Rattle.rss_machine.specs.Moves.{ticks, sends_one, sends, session_without, serves_replica, notes_served, listens, plans_stub}
+use Rattle.rss_machine.specs.Refusal.{refusal}
+use Rattle.rss_machine.specs.Run.{run, run_from}
+use Rattle.rss_machine.specs.Session.{Session}
+use Rattle.rss_machine.specs.State.{State, Owner, start, owner_at, no_owner, stage_at, opening_owner}
+use Rattle.rss_machine.specs.declared.session.OwnerKind.{OwnerKind}
+use Rattle.rss_machine.specs.declared.session.OwnerKind.TheVariants as kind
+use Rattle.rss_machine.specs.declared.session.Session.TheVariants as session
+use Rattle.rss_machine.specs.declared.step.Step.{Step}
+use Rattle.world_laws.proofs.Doings.{Changed, Heard, Beginning, calls, fences, Resting, plans, past, fixed, cleared, Working, owes_nothing, is_past, enters_own, Leaving, waits, fixes_work, fixes_own, asks_register, stamps_register, begins_snapshot, begins_txn, fence_done, stub_done, ShardTurning, txn_heard, txn_woken, txn_passed, snap_heard, snap_woken, Doing, listens_one, fix_hears, fix_reached, register_hears, register_stores, register_reached, read_ends, write_ends, txn_ends, snap_ends, counts_one, cuts_one, is_closed, forgets_all, turns, stub_asks}
+use Rattle.std.proofs.lemmas.Bool.{false≢true}
+use Rattle.world_laws.proofs.Looks.{looks, some_is, none_is_not}
+use Rattle.world_laws.proofs.OwnerWalk.{OwnerKeeps, owner_walk}
+use Rattle.world_laws.proofs.Runs.{passes, run_rest, run_none}
+use Rattle.world_laws.proofs.Sent.{SessionOut, RoundOut, ToShard, to_shard, IsTold, decision_outs, leaving_outs, doing_outs, sends_each, SentAll, sent_meets, sent_asks, sent_answers}
+use Rattle.world_laws.proofs.SessionWalk.{session_at, IsAgain}
+use Rattle.world_laws.proofs.StoreWalk.{SameStores}
+use Rattle.world_laws.proofs.Runs.{run_keeps}
+use Rattle.world_laws.proofs.Replies.{Sound, sound_keeps, sound_start}
+use Rattle.world_laws.proofs.Stacked.{OwnerKeepsUnder, stacked, store_owner, sent_before}
+use Rattle.world_laws.proofs.Sent.{sent_none}
+use Rattle.std.proofs.Common.{◌-◌, ◌⊎◌, inl, inr}
+use Rattle.std.specs.Prelude.{◌==◌, if◌then◌else◌}
+use Rattle.std.proofs.lemmas.Bool.{true≢false, eqb-true}
+use Rattle.std.proofs.lemmas.List.{get_or-set_same}
+use Rattle.carstamps.specs.Stamp.{next_stamp}
+use Rattle.rss_wire.specs.declared.envelope.Envelope.{Envelope}
+use Rattle.rss_wire.specs.declared.message.Fate.{Fate}
+use Rattle.rss_wire.specs.declared.message.Fate.TheVariants.{Pending}
+use Rattle.rss_wire.specs.Messages.{meets, asks, request_envelope, same_target}
+use Rattle.rss_tables.specs.Outs.{slot_count, slot_replica, line_slot}
+use Rattle.rss_tables.specs.RegisterSession.{phase_end}
+use Rattle.rss_tables.specs.Works.{Works, planned, plan_all, no_works}
+use Rattle.rss_machine.specs.Effect.{opens_round, least_shard}
+use Rattle.rss_machine.specs.Moves.{round_without}
+use Rattle.rss_machine.specs.Slots.{slot_in, slot_from, with_current, without_target, unless_with}
+use Rattle.rss_machine.specs.State.{no_currents}
+use Rattle.world_laws.specs.Exchanges.{Fits, Exchanges}
+use Rattle.world_laws.proofs.Doings.{turned, listened, fix_session}
+use Rattle.world_laws.proofs.Looks.{get_or_set, get_or_append, get_or_one, get_or_repeat, get_or_past, some_is_not}
+use Rattle.world_laws.proofs.OwnerWalk.{is_busy, busy_there}
+use Rattle.world_laws.proofs.Properly.{after-stays}
+use Rattle.world_laws.proofs.Replies.{meets_envelope, meets_body}
+use Rattle.world_laws.proofs.RequestsProper.{sends_same}
+use Rattle.world_laws.proofs.Sent.{round_outs}
+use Rattle.world_laws.proofs.Stacked.{SentBefore}
+use Rattle.reg_laws.specs.Awaited.{IsAsked, IsAwaited, CurrentsAwaited, IsOwnReply, IsRound, RepliesAreOwn}
+use Rattle.std.specs.Prelude.{◌&&◌}
+use Rattle.std.proofs.lemmas.Bool.{and_parts}
+use Rattle.carstamps.specs.declared.carstamp.Carstamp.{Carstamp}
+use Rattle.world_laws.specs.Registers.{NamesRegisters}
+use Rattle.world_laws.proofs.StoresOwn.{Owned, session_own, round_own, phase_own}
+use Rattle.reg_laws.proofs.Awaits.{set_each, grow_each, beginning_idle}
+use Rattle.reg_laws.proofs.Base.{Known, KnownAt, owned_of, known_run}
+
+-- the stamp that a phase stores, or has stored
+abbrev pub phase_stored : RegPhase → Option Carstamp
+phase_stored phase.Fixing = None
+phase_stored phase.Asking = None
+phase_stored phase.Stamping = None
+phase_stored (phase.Storing stamp) = Some stamp
+phase_stored (phase.Done (ends.Written stamp)) = Some stamp
+phase_stored (phase.Done (ends.Read cell dep)) = None
+phase_stored (phase.Done ends.Fixed) = None
+
+-- the phases of a work
+abbrev pub PhaseFits : RegWork → RegPhase → Type 0
+PhaseFits (work.Read key) phase.Asking = ⊤
+PhaseFits (work.Read key) (phase.Done (ends.Read cell dep)) = ⊤
+PhaseFits (work.Read key) phase.Fixing = ⊥
+PhaseFits (work.Read key) phase.Stamping = ⊥
+PhaseFits (work.Read key) (phase.Storing stamp) = ⊥
+PhaseFits (work.Read key) (phase.Done (ends.Written stamp)) = ⊥
+PhaseFits (work.Read key) (phase.Done ends.Fixed) = ⊥
+PhaseFits (work.Write key value) phase.Stamping = ⊤
+PhaseFits (work.Write key value) (phase.Storing stamp) = ⊤
+PhaseFits (work.Write key value) (phase.Done (ends.Written stamp)) = ⊤
+PhaseFits (work.Write key value) phase.Fixing = ⊥
+PhaseFits (work.Write key value) phase.Asking = ⊥
+PhaseFits (work.Write key value) (phase.Done (ends.Read cell dep)) = ⊥
+PhaseFits (work.Write key value) (phase.Done ends.Fixed) = ⊥
+PhaseFits (work.Fix deps) p = ⊥
+
+-- a call's round is in a phase of its work, and the stamp that it stores, or has stored, is of the call
+pub record CallRound (o : ℕ) (r : RegSession) : Type 0 where
+  pub own : (stamp : Carstamp) → phase_stored r.phase ≡ Some stamp → stamp.call ≡ o
+  pub fits : PhaseFits r.work r.phase
+
+abbrev pub StampOwn : ℕ → Session → Type 0
+StampOwn o (session.Register r) = CallRound o r
+StampOwn o session.Idle = ⊤
+StampOwn o (session.Fixing r) = ⊤
+StampOwn o (session.Transaction t) = ⊤
+StampOwn o (session.Snapshot t) = ⊤
+StampOwn o (session.Settling attempt shards) = ⊤
+
+-- each call's stamp is its own
+pub record OwnStamps (s : State) : Type 0 where
+  pub each : (o : ℕ) → StampOwn o (session_at s o)
+
+-- a round that hears a reply keeps its stamp, or takes one of its own call
+after_stamp : (o : ℕ) (f : RegSession) (from : ℕ) (r : Reply) → f.call ≡ o → CallRound o f → CallRound o (session_after f from r)
+after_stamp o f from r e h = by_reach (is_reached (hears f.round from (reply_cell r))) f.work f.phase refl refl h.fits
+  where
+    g : RegSession
+    g = record f { round = hears f.round from (reply_cell r) }
+
+    by_reach : (t : Bool) (w : RegWork) (p : RegPhase) → f.work ≡ w → f.phase ≡ p → PhaseFits w p → CallRound o (if t then reached g p else g)
+    by_reach false w p a d k = record { own = h.own; fits = h.fits }
+    by_reach true (work.Read key) phase.Asking a d k = record {
+      own = λ stamp b. absurd (read_none f.work (found_cell (greatest_heard g.round)) (is_agreed g.round) stamp b);
+      fits = subst (λ (x : RegWork). PhaseFits x (phase.Done (read_end x (found_cell (greatest_heard g.round)) (is_agreed g.round)))) (sym a) tt;
+    }
+      where
+        read_none : (w : RegWork) (cell : RegReply) (agreed : Bool) (stamp : Carstamp) → phase_stored (phase.Done (read_end w cell agreed)) ≡ Some stamp → ⊥
+        read_none (work.Read key) cell agreed stamp a = none_is_not stamp a
+        read_none (work.Write key value) cell agreed stamp a = none_is_not stamp a
+        read_none (work.Fix deps) cell agreed stamp a = none_is_not stamp a
+    by_reach true (work.Read key) (phase.Done end) a d k = record { own = h.own; fits = h.fits }
+    by_reach true (work.Read key) phase.Fixing a d k = absurd k
+    by_reach true (work.Read key) phase.Stamping a d k = absurd k
+    by_reach true (work.Read key) (phase.Storing stamp) a d k = absurd k
+    by_reach true (work.Write key value) phase.Stamping a d k = record {
+      own = λ stamp b. ap (λ (z : Carstamp). z.call) (sym (some_is (next_stamp (found_cell (greatest_heard g.round)).stamp f.call) stamp b)) ∙ e;
+      fits = subst (λ (x : RegWork). PhaseFits x (phase.Storing (next_stamp (found_cell (greatest_heard g.round)).stamp f.call))) (sym a) tt;
+    }
+    by_reach true (work.Write key value) (phase.Storing z) a d k = record { own = λ stamp b. h.own stamp (ap phase_stored d ∙ b); fits = subst (λ (x : RegWork). PhaseFits x (phase.Done (ends.Written z))) (sym a) tt }
+    by_reach true (work.Write key value) (phase.Done end) a d k = record { own = h.own; fits = h.fits }
+    by_reach true (work.Write key value) phase.Fixing a d k = absurd k
+    by_reach true (work.Write key value) phase.Asking a d k = absurd k
+    by_reach true (work.Fix deps) p a d k = absurd k
+
+without_stamp : (o : ℕ) (x : Session) (id : ServiceId) (replica : ℕ) → StampOwn o x → StampOwn o (session_without x (Replica id replica))
+without_stamp o (session.Register r) id replica h = cond_both (same_service r.service id) _ r (CallRound o) (λ t. record { own = h.own; fits = h.fits }) (λ t. h)
+without_stamp o (session.Fixing r) id replica h = tt
+without_stamp o session.Idle id replica h = tt
+without_stamp o (session.Transaction t) id replica h = tt
+without_stamp o (session.Snapshot t) id replica h = tt
+without_stamp o (session.Settling attempt shards) id replica h = tt
+
+leaving_stamp : (c : Config) (at : Reading) (s : State) (o : ℕ) (w : Owner) (outs : List Out) → Leaving c at s o w outs → StampOwn o (session_at s o) → StampOwn o w.session
+leaving_stamp c at s o _ _ (waits id time rest l) h = h
+leaving_stamp c at s o _ _ (fixes_work id rest l) h = tt
+leaving_stamp c at s o _ _ (fixes_own x dep deps l e d) h = tt
+leaving_stamp c at s o _ _ (asks_register key l e d) h = record { own = λ stamp a. absurd (none_is_not stamp a); fits = tt }
+leaving_stamp c at s o _ _ (stamps_register key value l e d) h = record { own = λ stamp a. absurd (none_is_not stamp a); fits = tt }
+leaving_stamp c at s o _ _ (begins_snapshot keys t l e d) h = tt
+leaving_stamp c at s o _ _ (begins_txn reads guard writes t l e d) h = tt
+leaving_stamp c at s o _ _ (fence_done l e) h = h
+leaving_stamp c at s o _ _ (stub_done u l e) h = h
+
+working_stamp : (at : Reading) (s : State) (o : ℕ) (w : Owner) → Working at s o w → StampOwn o (session_at s o) → StampOwn o w.session
+working_stamp at s o _ (owes_nothing id rest l) h = tt
+working_stamp at s o _ (is_past id time rest l e) h = tt
+working_stamp at s o _ (enters_own x l e f) h = h
+
+resting_stamp : (s : State) (o : ℕ) (w : Owner) → Resting s o w → StampOwn o w.session
+resting_stamp s o _ (plans e b) = tt
+resting_stamp s o _ (past id x rest time l e) = tt
+resting_stamp s o _ (fixed id x rest r e l a b d) = tt
+resting_stamp s o _ (cleared r e l a b d) = tt
+
+turning_stamp : (s : State) (o : ℕ) (x : Session) (outs : List Out) → ShardTurning s o x outs → StampOwn o x
+turning_stamp s o _ _ (txn_heard t l at r e) = tt
+turning_stamp s o _ _ (txn_woken t l e) = tt
+turning_stamp s o _ _ (txn_passed t e) = tt
+turning_stamp s o _ _ (snap_heard t l r e) = tt
+turning_stamp s o _ _ (snap_woken t l e) = tt
+
+-- a register session is its owner's
+round_call : (s : State) (o : ℕ) (f : RegSession) → Owned s → session_at s o ≡ session.Register f → f.call ≡ o
+round_call s o f h x =
+    let e : round_own o f ≡ true = subst (λ (y : Session). session_own o y ≡ true) x (h.sessions o) in
+    eqb-true f.call o (and_parts (f.call == o) (phase_own o f.phase) e).0
+
+doing_stamp : (s : State) (o : ℕ) (w : Owner) (outs : List Out) (new : List Dep) → Doing s o w outs new → Owned s → StampOwn o (session_at s o) → StampOwn o w.session
+doing_stamp s o _ _ _ (listens_one slot r d) g h = h
+doing_stamp s o _ _ _ (fix_hears f slot r x d e) g h = tt
+doing_stamp s o _ _ _ (fix_reached f slot r y x d e) g h = tt
+doing_stamp s o _ _ _ (register_hears f slot r x d a e) g h = after_stamp o f (slot_replica slot) r (round_call s o f g x) (subst (StampOwn o) x h)
+doing_stamp s o _ _ _ (register_stores f slot r x d a e) g h = after_stamp o f (slot_replica slot) r (round_call s o f g x) (subst (StampOwn o) x h)
+doing_stamp s o _ _ _ (register_reached f slot r y x d e) g h = after_stamp o f (slot_replica slot) r (round_call s o f g x) (subst (StampOwn o) x h)
+doing_stamp s o _ _ _ (read_ends f key cell dep x a b) g h = h
+doing_stamp s o _ _ _ (write_ends f key value e x a b) g h = h
+doing_stamp s o _ _ _ (txn_ends y t time a b d) g h = h
+doing_stamp s o _ _ _ (snap_ends y t time a b d) g h = h
+doing_stamp s o _ _ _ (counts_one target) g h = h
+doing_stamp s o _ _ _ (cuts_one id replica) g h = without_stamp o (session_at s o) id replica h
+doing_stamp s o _ _ _ (is_closed f) g h = h
+doing_stamp s o _ _ _ forgets_all g h = h
+doing_stamp s o _ _ _ (turns x outs y) g h = turning_stamp s o x outs y
+doing_stamp s o _ _ _ (stub_asks attempt shards e b) g h = tt
+
+stamps_set : (s t : State) (o : ℕ) (w : Owner) → t.owners ≡ set s.owners o w → StampOwn o w.session → OwnStamps s → OwnStamps t
+stamps_set s t o w d v h = record { each = subst (λ (owners : List Owner). (i : ℕ) → StampOwn i (get_or owners i no_owner).session) (sym d) (set_each (λ i x. StampOwn i x.session) s.owners o w v h.each) }
+
+stamps_grow : (s t : State) (w : Owner) → t.owners ≡ s.owners ++ w ∷ [] → w.session ≡ session.Idle → OwnStamps s → OwnStamps t
+stamps_grow s t w d e h = record { each = subst (λ (owners : List Owner). (i : ℕ) → StampOwn i (get_or owners i no_owner).session) (sym d) (grow_each (λ i x. StampOwn i x.session) s.owners w (subst (StampOwn (length s.owners)) (sym e) tt) h.each) }
+
+stamps_one : (o : ℕ) (s : State) (out : Out) → OwnStamps s → OwnStamps (sends_one s o out)
+stamps_one o s out h = record { each = set_each (λ i x. StampOwn i x.session) s.owners o _ (h.each o) h.each }
+
+stamps_sends : (o : ℕ) (outs : List Out) (s : State) → OwnStamps s → OwnStamps (sends s o outs)
+stamps_sends o [] s h = h
+stamps_sends o (out ∷ outs) s h = stamps_sends o outs (sends_one s o out) (stamps_one o s out h)
+
+stamps_settles : (s : State) (o slot : ℕ) (a : Attempt) (shards : List ℕ) (outcome : Outcome) → OwnStamps s → OwnStamps (plans_stub (sends (listens s o slot) o (tells_decision a outcome shards)) o)
+stamps_settles s o slot a shards outcome h =
+    let u = listens s o slot in
+    let v = sends u o (tells_decision a outcome shards) in
+    let q : OwnStamps u = stamps_set s u o (listened s o slot) refl (h.each o) h in
+    let p : OwnStamps v = stamps_sends o (tells_decision a outcome shards) u q in
+    stamps_set v (plans_stub v o) o _ refl tt p
+
+pub own_stamps_under : (c : Config) (at : Reading) → OwnerKeepsUnder c at (Known c) (KnownAt c) OwnStamps (λ s o. OwnStamps s)
+own_stamps_under c at = record {
+  fates = λ s m f g h. record { each = h.each };
+  shards = λ s m shard r d g h. record { each = h.each };
+  replicas = λ s m id replica r d g h. record { each = set_each (λ i x. StampOwn i x.session) s.owners (message_at s.net m).envelope.owner _ (h.each (message_at s.net m).envelope.owner) h.each };
+  again = λ s o exchange slot target r d g h. stamps_one o s (record { slot = Some slot; target = target; request = r }) h;
+  stages = λ s t d g h. record { each = subst (λ (owners : List Owner). (i : ℕ) → StampOwn i (get_or owners i no_owner).session) (sym d.owned) h.each };
+  dies = λ s t m u d g h. stamps_grow s t _ d.owned refl h;
+  begins = λ s t w b d g h. stamps_grow s t w d.owned (beginning_idle c s w b) h;
+  rests = λ s t o w i b d g h. stamps_set s t o w d.owned (resting_stamp s o w b) h;
+  settles = λ s o slot a shards outcome i e d g h. stamps_settles s o slot a shards outcome h;
+  settled = λ s o g h. h;
+  works = λ s t o w i b d g h. stamps_set s t o w d.owned (working_stamp at s o w b (h.each o)) h;
+  leaves = λ s t o w outs i b d g h. stamps_sends o outs t (stamps_set s t o w d.owned (leaving_stamp c at s o w outs b (h.each o)) h);
+  does = λ s t o w outs new b d g h. stamps_sends o outs t (stamps_set s t o w d.owned (doing_stamp s o w outs new b (owned_of c s g) (h.each o)) h);
+}
+
+pub own_stamps_run : (c : Config) (steps : List Step) (s : State) → NamesRegisters c → run c steps ≡ Some s → OwnStamps s
+own_stamps_run c steps s n e = (known_run c n OwnStamps (λ t o. OwnStamps t) (own_stamps_under c) (λ t at h. record { each = h.each }) (record { each = each }) steps s e).1
+  where
+    each : (o : ℕ) → StampOwn o (session_at (start c) o)
+    each zero = tt
+    each (suc o) = tt

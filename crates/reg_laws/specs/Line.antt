@@ -1,0 +1,54 @@
+-- The line of a register: its placed calls in the order of their keys.
+use Rattle.std.specs.Prelude.{◌≡◌, ℕ, ◌<◌, ◌≤◌, ◌⊎◌, ⊤, Bool, true, false, Some, Option}
+use Rattle.rss_names.specs.declared.service.Key.{Key}
+use Rattle.carstamps.specs.declared.carstamp.Carstamp.{Carstamp}
+use Rattle.causal_context.specs.declared.dep.Dep.{Dep}
+use Rattle.rss_wire.specs.declared.messages.RegReply.{RegReply}
+use Rattle.rss_tables.specs.RegisterSession.{RegSession}
+use Rattle.rss_tables.specs.ReplicaRow.{opening_cell}
+use Rattle.rss_tables.specs.declared.register_session.RegEnd.TheVariants as ends
+use Rattle.rss_tables.specs.declared.register_session.RegPhase.TheVariants as phase
+use Rattle.rss_tables.specs.declared.register_session.RegWork.TheVariants as work
+use Rattle.rss_machine.specs.Places.{phase_stamp, register_key, key_lt}
+use Rattle.rss_machine.specs.State.{State, owner_at}
+use Rattle.rss_machine.specs.declared.place.PlaceKey.{PlaceKey}
+use Rattle.rss_machine.specs.declared.session.Session.TheVariants as session
+use Rattle.reg_laws.specs.Rounds.{Reads}
+
+-- a placed write: a call that has taken this stamp on a register, and whose store some replica has handled
+pub record PlacedWrite (s : State) (o : ℕ) (key : Key) (value : ℕ) (stamp : Carstamp) : Type 0 where
+  pub round : RegSession
+  pub under_way : (owner_at s o).session ≡ session.Register round
+  pub of_work : round.work ≡ work.Write key value
+  pub with_stamp : phase_stamp round.phase ≡ Some stamp
+  pub handled : (owner_at s o).stored ≡ true
+
+-- the keys of a write and of a read on a register
+abbrev pub write_key : State → ℕ → Key → Carstamp → PlaceKey
+write_key s o key stamp = register_key s o false (key, stamp)
+
+abbrev pub read_key : State → ℕ → Key → Carstamp → PlaceKey
+read_key s o key stamp = register_key s o true (key, stamp)
+
+-- the write whose value a read replied stands before it, and no other write of the register between
+pub record WriterBefore (s : State) (o : ℕ) (key : Key) (cell : RegReply) : Type 0 where
+  pub placed : PlacedWrite s cell.writer key cell.value cell.stamp
+  pub before : key_lt (write_key s cell.writer key cell.stamp) (read_key s o key cell.stamp) ≡ true
+  pub others : (a value : ℕ) (stamp : Carstamp) → PlacedWrite s a key value stamp → (a ≡ cell.writer → ⊥)
+      → (key_lt (write_key s a key stamp) (write_key s cell.writer key cell.stamp) ≡ true) ⊎ (key_lt (read_key s o key cell.stamp) (write_key s a key stamp) ≡ true)
+
+-- a read that replied the opening value stands before each write of the register
+pub record BeforeWrites (s : State) (o : ℕ) (key : Key) (cell : RegReply) : Type 0 where
+  pub opening : cell ≡ opening_cell
+  pub others : (a value : ℕ) (stamp : Carstamp) → PlacedWrite s a key value stamp → key_lt (read_key s o key cell.stamp) (write_key s a key stamp) ≡ true
+
+-- each read that has ended replied what the last write before it wrote
+pub record ReadsLegal (s : State) : Type 0 where
+  pub read : (o : ℕ) (key : Key) (cell : RegReply) (dep : Option Dep) → Reads s o key (phase.Done (ends.Read cell dep)) → BeforeWrites s o key cell ⊎ WriterBefore s o key cell
+
+-- a write's place is after the step of its own first round, and a read's is not before it; and no call sends
+-- its first round before it begins
+pub record PlacesInside (s : State) : Type 0 where
+  pub write : (o : ℕ) (key : Key) (value : ℕ) (stamp : Carstamp) → PlacedWrite s o key value stamp → (owner_at s o).dates.launched < (write_key s o key stamp).step
+  pub read : (o : ℕ) (key : Key) (stamp : Carstamp) → (owner_at s o).dates.launched ≤ (read_key s o key stamp).step
+  pub begun : (o : ℕ) → 0 < (owner_at s o).dates.launched → (owner_at s o).dates.begun ≤ (owner_at s o).dates.launched
