@@ -303,3 +303,31 @@ dated_since_step c u s step r h =
 
 pub dated_since_from : (c : Config) (steps : List Step) (u s : State) → run_from c u steps ≡ Some s → DatedSince u s
 dated_since_from c steps u s e = steps_keep c (DatedSince u) (dated_since_step c u) steps u s e (omega arith, record { each = λ o. record { more = omega arith; since = record { begun = inl refl; launched = inl refl; ended = inl refl } } })
+
+-- a call begins no later than it sends its own first round
+pub record InTurn (n : ℕ) (d : Dates) : Type 0 where
+  pub up_to : UpTo n d
+  pub begun : 0 < d.launched → d.begun ≤ d.launched
+
+in_turn_kept : (n : ℕ) → DatesKept (λ m o d. InTurn m d) n
+in_turn_kept n = record {
+  change = λ o d e y h. by_change d e y h;
+  fresh = λ o h. record { up_to = record { begun = omega arith; launched = omega arith; ended = omega arith }; begun = λ l. absurd (omega (arith, l)) };
+}
+  where
+    by_change : (d e : Dates) → DateChange n d e → InTurn n d → InTurn n e
+    by_change d _ stays h = h
+    by_change d _ is_launched h = record { up_to = record { begun = h.up_to.begun; launched = omega arith; ended = h.up_to.ended }; begun = λ l. h.up_to.begun }
+    by_change d _ is_ended h = record { up_to = record { begun = h.up_to.begun; launched = h.up_to.launched; ended = omega arith }; begun = h.begun }
+    by_change d _ is_entered h = record { up_to = record { begun = h.up_to.begun; launched = h.up_to.launched; ended = h.up_to.ended }; begun = h.begun }
+
+in_turn_step : (c : Config) (s : State) (step : Step) → refusal c s step ≡ None → Dating (λ n o d. InTurn n d) s → Dating (λ n o d. InTurn n d) (stepped c s step)
+in_turn_step c s step r h =
+    dating_step (λ n o d. InTurn n d) c s step r (in_turn_kept (s.steps + 1)) (λ o d k. record { up_to = record { begun = let a = k.up_to.begun in omega (arith, a); launched = let a = k.up_to.launched in omega (arith, a); ended = let a = k.up_to.ended in omega (arith, a) }; begun = k.begun }) h
+
+pub begun_first : (c : Config) (steps : List Step) (s : State) → run c steps ≡ Some s → (o : ℕ) → 0 < (owner_at s o).dates.launched → (owner_at s o).dates.begun ≤ (owner_at s o).dates.launched
+begun_first c steps s e o = ((run_keeps c (Dating (λ n o d. InTurn n d)) (in_turn_step c) (record { each = each }) steps s e).each o).begun
+  where
+    each : (o : ℕ) → InTurn 0 (owner_at (start c) o).dates
+    each zero = record { up_to = record { begun = omega arith; launched = omega arith; ended = omega arith }; begun = λ l. absurd (omega (arith, l)) }
+    each (suc o) = record { up_to = record { begun = omega arith; launched = omega arith; ended = omega arith }; begun = λ l. absurd (omega (arith, l)) }

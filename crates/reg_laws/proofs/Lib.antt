@@ -12,3 +12,5 @@ pub mod Since
 pub mod Dates
 pub mod Above
 pub mod OwnStamps
+pub mod Legal
+pub mod Seen

@@ -364,11 +364,11 @@ pub stores_start : (c : Config) → Stores (start c)
 stores_start c = record { stores = sent_none (StoreOf (session_at (start c))) }
 
 -- one stamp is of one register, one value and one writer
-stored_by : (s : State) (key : Key) (cell : RegReply) (a : WasStored s.net key cell) → Stores s → StoredBy (session_at s (message_at s.net a.number).envelope.owner) key cell.value cell.stamp
+pub stored_by : (s : State) (key : Key) (cell : RegReply) (a : WasStored s.net key cell) → Stores s → StoredBy (session_at s (message_at s.net a.number).envelope.owner) key cell.value cell.stamp
 stored_by s key cell a h = subst (λ (t : Target). StoreOf (session_at s) (message_at s.net a.number).envelope.owner t (request.Store key cell.value cell.stamp cell.writer)) a.target (h.stores.each a.number (request.Store key cell.value cell.stamp cell.writer) a.says)
 
 -- a store names its owner
-named_by : (s : State) (key : Key) (cell : RegReply) (a : WasStored s.net key cell) → AreOwn s → (cell.writer ≡ (message_at s.net a.number).envelope.owner) × (cell.stamp.call ≡ (message_at s.net a.number).envelope.owner)
+pub named_by : (s : State) (key : Key) (cell : RegReply) (a : WasStored s.net key cell) → AreOwn s → (cell.writer ≡ (message_at s.net a.number).envelope.owner) × (cell.stamp.call ≡ (message_at s.net a.number).envelope.owner)
 named_by s key cell a h =
     let o = (message_at s.net a.number).envelope.owner in
     let e : is_own_body o (message_at s.net a.number).envelope.target (message_at s.net a.number).body ≡ true = h a.number in

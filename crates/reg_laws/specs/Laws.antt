@@ -9,6 +9,7 @@ use Rattle.reg_laws.specs.Stored.{StampsName, HoldsStored}
 use Rattle.reg_laws.specs.Files.{IsInOrder}
 use Rattle.reg_laws.specs.Told.{RepliesProve, RepliesTell}
 use Rattle.reg_laws.specs.Rounds.{EndsHeld, RoundsSee, SeesSteps}
+use Rattle.reg_laws.specs.Line.{ReadsLegal, PlacesInside, SeenFrom}
 use Rattle.reg_laws.specs.Awaited.{CurrentsAwaited, RepliesAreOwn}
 
 -- each current exchange is awaited
@@ -48,3 +49,16 @@ RoundsSeeWhatWasHeld =
 -- a call sees each stamp whose step is not later than that of its own first round
 abbrev pub RoundsSeeSteps : Type 0
 RoundsSeeSteps = (c : Config) (steps : List Step) (s : State) → IsInOrder c → run c steps ≡ Some s → SeesSteps c steps s
+
+-- each read that has ended replied what the last write before it wrote
+abbrev pub ReadsAreLegal : Type 0
+ReadsAreLegal = (c : Config) (steps : List Step) (s : State) → IsInOrder c → run c steps ≡ Some s → ReadsLegal s
+
+-- calls take effect after they begin
+abbrev pub PlacesAreInside : Type 0
+PlacesAreInside = (c : Config) (steps : List Step) (s : State) → IsInOrder c → run c steps ≡ Some s → PlacesInside s
+
+-- what has ended takes effect by then, and later calls see it
+abbrev pub EndsAreSeen : Type 0
+EndsAreSeen =
+    (c : Config) (steps more : List Step) (u s : State) → IsInOrder c → run c steps ≡ Some u → run c (steps ++ more) ≡ Some s → SeenFrom c (steps ++ more) u s

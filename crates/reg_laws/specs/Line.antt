@@ -1,7 +1,11 @@
 -- The line of a register: its placed calls in the order of their keys.
-use Rattle.std.specs.Prelude.{◌≡◌, ℕ, ◌<◌, ◌≤◌, ◌⊎◌, ⊤, Bool, true, false, Some, Option}
+use Rattle.std.specs.Prelude.{◌≡◌, ℕ, ◌<◌, ◌≤◌, ◌⊎◌, ⊤, Bool, true, false, List, Some, None, Option}
 use Rattle.rss_names.specs.declared.service.Key.{Key}
 use Rattle.carstamps.specs.declared.carstamp.Carstamp.{Carstamp}
+use Rattle.carstamps.specs.Stamp.{stamp_le, stamp_lt}
+use Rattle.pipeline_lang.specs.declared.config.Config.{Config}
+use Rattle.rss_machine.specs.Times.{step_of_stamp}
+use Rattle.rss_machine.specs.declared.step.Step.{Step}
 use Rattle.causal_context.specs.declared.dep.Dep.{Dep}
 use Rattle.rss_wire.specs.declared.messages.RegReply.{RegReply}
 use Rattle.rss_tables.specs.RegisterSession.{RegSession}
@@ -13,7 +17,7 @@ use Rattle.rss_machine.specs.Places.{phase_stamp, register_key, key_lt}
 use Rattle.rss_machine.specs.State.{State, owner_at}
 use Rattle.rss_machine.specs.declared.place.PlaceKey.{PlaceKey}
 use Rattle.rss_machine.specs.declared.session.Session.TheVariants as session
-use Rattle.reg_laws.specs.Rounds.{Reads}
+use Rattle.reg_laws.specs.Rounds.{Writes, Reads}
 
 -- a placed write: a call that has taken this stamp on a register, and whose store some replica has handled
 pub record PlacedWrite (s : State) (o : ℕ) (key : Key) (value : ℕ) (stamp : Carstamp) : Type 0 where
@@ -52,3 +56,15 @@ pub record PlacesInside (s : State) : Type 0 where
   pub write : (o : ℕ) (key : Key) (value : ℕ) (stamp : Carstamp) → PlacedWrite s o key value stamp → (owner_at s o).dates.launched < (write_key s o key stamp).step
   pub read : (o : ℕ) (key : Key) (stamp : Carstamp) → (owner_at s o).dates.launched ≤ (read_key s o key stamp).step
   pub begun : (o : ℕ) → 0 < (owner_at s o).dates.launched → (owner_at s o).dates.begun ≤ (owner_at s o).dates.launched
+
+-- from a state to a later one that these steps lead to: what has ended in the first with a stamp that a majority
+-- holds has its step there, and a call that sends its own first round later sees it
+pub record SeenFromOne (c : Config) (steps : List Step) (u s : State) (key : Key) (stamp : Carstamp) : Type 0 where
+  pub come : step_of_stamp c steps key stamp ≤ u.steps
+  pub stored : (o value : ℕ) (other : Carstamp) → u.steps < (owner_at s o).dates.launched → Writes s o key value (phase.Storing other) → stamp_lt stamp other ≡ true
+  pub written : (o value : ℕ) (other : Carstamp) → u.steps < (owner_at s o).dates.launched → Writes s o key value (phase.Done (ends.Written other)) → stamp_lt stamp other ≡ true
+  pub read : (o : ℕ) (cell : RegReply) (dep : Option Dep) → u.steps < (owner_at s o).dates.launched → Reads s o key (phase.Done (ends.Read cell dep)) → stamp_le stamp cell.stamp ≡ true
+
+pub record SeenFrom (c : Config) (steps : List Step) (u s : State) : Type 0 where
+  pub write : (o : ℕ) (key : Key) (value : ℕ) (stamp : Carstamp) → Writes u o key value (phase.Done (ends.Written stamp)) → SeenFromOne c steps u s key stamp
+  pub agreed : (o : ℕ) (key : Key) (cell : RegReply) → Reads u o key (phase.Done (ends.Read cell None)) → SeenFromOne c steps u s key cell.stamp

@@ -1,6 +1,6 @@
 //! The laws of rounds. They hold no code: each is the contract of a function that does nothing.
 
-ghost use Rattle.reg_laws.specs.Laws.{CurrentsAreAwaited, HeardRepliesAreOwn, StampsAreUnique, WhatIsHeldWasStored, RepliesProveHolding, RepliesTellOfBefore, EndsAreHeld, RoundsSeeWhatWasHeld, RoundsSeeSteps};
+ghost use Rattle.reg_laws.specs.Laws.{CurrentsAreAwaited, HeardRepliesAreOwn, StampsAreUnique, WhatIsHeldWasStored, RepliesProveHolding, RepliesTellOfBefore, EndsAreHeld, RoundsSeeWhatWasHeld, RoundsSeeSteps, ReadsAreLegal, PlacesAreInside, EndsAreSeen};
 
 /// In every run each current exchange of an owner is one that it awaits: with a round under way it is
 /// the owner's request of the round's phase to the replica of its slot, and an owner with nothing
@@ -62,4 +62,24 @@ pub fn rounds_see_what_was_held()
 /// that of its own first round: a write's stamp is above it, and a read's is not below it.
 pub fn rounds_see_steps()
     ensures { RoundsSeeSteps }
+{}
+
+/// In every run of a file in order, over the placed calls of a register in the order of their keys: each
+/// read that has ended replied the opening value, and then it stands before every write of the register,
+/// or what a placed write wrote, and then that write stands before the read and no other one between.
+pub fn reads_are_legal()
+    ensures { ReadsAreLegal }
+{}
+
+/// In every run of a file in order: a placed write takes effect after the step of its own first round,
+/// a read not before it, and no call sends its own first round before it begins.
+pub fn places_are_inside()
+    ensures { PlacesAreInside }
+{}
+
+/// From one state of a run to every later one: the stamp of a write that has ended in the first, and
+/// the one on which a read that has ended found all agreed, has its step by then; a call that sends its
+/// own first round after the first sees it.
+pub fn ends_are_seen()
+    ensures { EndsAreSeen }
 {}

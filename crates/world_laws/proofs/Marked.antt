@@ -339,7 +339,7 @@ start_opening : (registers : ℕ) (services : List ServiceDef) (key : Key) (plac
 start_opening registers [] key place i = refl
 start_opening registers (d ∷ services) key place i = before_opening registers d.id d.replicas services key place i (λ j. start_opening registers services key place j)
 
-start_not_held : (c : Config) (key : Key) (z : Carstamp) → stamp_le z opening_stamp ≡ false → is_held (replicas_at (start c) key.service) key z ≡ false
+pub start_not_held : (c : Config) (key : Key) (z : Carstamp) → stamp_le z opening_stamp ≡ false → is_held (replicas_at (start c) key.service) key z ≡ false
 start_not_held c key z f = by_test (is_held (replicas_at (start c) key.service) key z) refl
   where
     by_test : (t : Bool) → is_held (replicas_at (start c) key.service) key z ≡ t → t ≡ false
