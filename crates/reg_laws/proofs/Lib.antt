@@ -14,3 +14,4 @@ pub mod Above
 pub mod OwnStamps
 pub mod Legal
 pub mod Seen
+pub mod Agree

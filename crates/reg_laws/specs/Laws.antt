@@ -10,6 +10,7 @@ use Rattle.reg_laws.specs.Files.{IsInOrder}
 use Rattle.reg_laws.specs.Told.{RepliesProve, RepliesTell}
 use Rattle.reg_laws.specs.Rounds.{EndsHeld, RoundsSee, SeesSteps}
 use Rattle.reg_laws.specs.Line.{ReadsLegal, PlacesInside, SeenFrom}
+use Rattle.reg_laws.specs.Agree.{AllAgree}
 use Rattle.reg_laws.specs.Awaited.{CurrentsAwaited, RepliesAreOwn}
 
 -- each current exchange is awaited
@@ -62,3 +63,7 @@ PlacesAreInside = (c : Config) (steps : List Step) (s : State) → IsInOrder c �
 abbrev pub EndsAreSeen : Type 0
 EndsAreSeen =
     (c : Config) (steps more : List Step) (u s : State) → IsInOrder c → run c steps ≡ Some u → run c (steps ++ more) ≡ Some s → SeenFrom c (steps ++ more) u s
+
+-- what owners have under way is of what they do
+abbrev pub SessionsAgree : Type 0
+SessionsAgree = (c : Config) (steps : List Step) (s : State) → run c steps ≡ Some s → AllAgree s

@@ -4,4 +4,5 @@ pub mod Files
 pub mod Told
 pub mod Rounds
 pub mod Line
+pub mod Agree
 pub mod Laws

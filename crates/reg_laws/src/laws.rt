@@ -1,6 +1,6 @@
 //! The laws of rounds. They hold no code: each is the contract of a function that does nothing.
 
-ghost use Rattle.reg_laws.specs.Laws.{CurrentsAreAwaited, HeardRepliesAreOwn, StampsAreUnique, WhatIsHeldWasStored, RepliesProveHolding, RepliesTellOfBefore, EndsAreHeld, RoundsSeeWhatWasHeld, RoundsSeeSteps, ReadsAreLegal, PlacesAreInside, EndsAreSeen};
+ghost use Rattle.reg_laws.specs.Laws.{CurrentsAreAwaited, HeardRepliesAreOwn, StampsAreUnique, WhatIsHeldWasStored, RepliesProveHolding, RepliesTellOfBefore, EndsAreHeld, RoundsSeeWhatWasHeld, RoundsSeeSteps, ReadsAreLegal, PlacesAreInside, EndsAreSeen, SessionsAgree};
 
 /// In every run each current exchange of an owner is one that it awaits: with a round under way it is
 /// the owner's request of the round's phase to the replica of its slot, and an owner with nothing
@@ -82,4 +82,11 @@ pub fn places_are_inside()
 /// own first round after the first sees it.
 pub fn ends_are_seen()
     ensures { EndsAreSeen }
+{}
+
+/// In every run what an owner has under way is of what it does: a register call's rounds are of its
+/// operation, with its works done and nothing left that its copy depends on; a round of dependencies
+/// stores what the copy depends on of the service that comes next; a stub settles what its stage left.
+pub fn sessions_agree()
+    ensures { SessionsAgree }
 {}

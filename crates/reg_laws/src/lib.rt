@@ -6,5 +6,5 @@ mod laws;
 pub use laws::{
     currents_are_awaited, ends_are_held, ends_are_seen, heard_replies_are_own, places_are_inside,
     reads_are_legal, replies_prove_holding, replies_tell_of_before, rounds_see_steps,
-    rounds_see_what_was_held, stamps_are_unique, what_is_held_was_stored,
+    rounds_see_what_was_held, sessions_agree, stamps_are_unique, what_is_held_was_stored,
 };
