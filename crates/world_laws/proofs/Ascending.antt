@@ -1,5 +1,5 @@
 -- The notes of every register ascend, in every run.
-use Rattle.std.proofs.Common.{◌≡◌, ℕ, zero, suc, ◌+◌, ◌<◌, ◌≤◌, ◌⊎◌, inl, inr, Bool, true, false, List, [], ◌∷◌, ◌++◌, length, length-append, get_or, Option, Some, None, refl, ap, ◌∙◌, sym, subst, arith}
+use Rattle.std.proofs.Common.{◌≡◌, ℕ, zero, suc, ◌+◌, ◌<◌, ◌≤◌, ◌⊎◌, inl, inr, Bool, true, false, List, [], ◌∷◌, ◌++◌, length, get_or, Some, None, refl, sym, subst, arith}
 use Rattle.std.specs.Prelude.{is_some, if◌then◌else◌}
 use Rattle.std.proofs.Math.ListN.{set}
 use Rattle.std.proofs.lemmas.Bool.{true≢false}
@@ -21,7 +21,7 @@ use Rattle.world_laws.specs.Ascending.{mark_at, Ascending}
 use Rattle.world_laws.proofs.Looks.{looks, get_or_set}
 use Rattle.world_laws.proofs.Runs.{passes, run_rest, run_none}
 use Rattle.world_laws.proofs.Marked.{none_at}
-use Rattle.world_laws.proofs.StoreWalk.{StoreKeeps, SameStores, store_walk}
+use Rattle.world_laws.proofs.StoreWalk.{StoreKeeps, store_walk}
 
 not_le_lt : (a b : Carstamp) → stamp_le a b ≡ false → stamp_lt b a ≡ true
 not_le_lt a b e = grind (arith, nat_tests)

@@ -1,5 +1,5 @@
 -- The clock: a step is counted once, and nothing else changes the count or the true moment.
-use Rattle.std.proofs.Common.{◌≡◌, ℕ, ◌+◌, ◌≤◌, List, [], ◌∷◌, ◌++◌, length, Some, None, refl, ap, sym, ◌∙◌, arith}
+use Rattle.std.proofs.Common.{◌≡◌, ℕ, ◌+◌, ◌≤◌, List, [], ◌∷◌, ◌++◌, length, Some, None, refl, ap, ◌∙◌, arith}
 use Rattle.truetime.specs.TrueMoment.{moment_after}
 use Rattle.pipeline_lang.specs.declared.config.Config.{Config}
 use Rattle.rss_machine.specs.State.{State, start}
@@ -9,7 +9,7 @@ use Rattle.rss_machine.specs.Refusal.{refusal}
 use Rattle.rss_machine.specs.Run.{run, run_from}
 use Rattle.rss_machine.specs.declared.step.Step.{Step}
 use Rattle.world_laws.proofs.Runs.{passes, run_rest, run_none}
-use Rattle.world_laws.proofs.StoreWalk.{StoreKeeps, SameStores, store_walk}
+use Rattle.world_laws.proofs.StoreWalk.{StoreKeeps, store_walk}
 
 -- the clock stands at this step, this moment and these moments
 record Stands (k a : ℕ) (ms : List ℕ) (s : State) : Type 0 where

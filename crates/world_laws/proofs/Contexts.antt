@@ -1,24 +1,21 @@
 -- Where dependencies stand: in the contexts of stages, of the chunks and end marks of pipes, and of the
 -- copies that owners go through their works with. What is true of each dependency there stays true of
 -- each where contexts are copied, joined, fenced, entered and left behind by calls.
-use Rattle.std.proofs.Common.{◌≡◌, ℕ, zero, suc, ◌+◌, ◌-◌, ◌<◌, ◌≤◌, ◌⊎◌, inl, inr, Bool, true, false, List, [], ◌∷◌, ◌++◌, length, get_or, map, drop, All, Option, Some, None, refl, ap, sym, ◌∙◌, subst, arith}
-use Rattle.std.specs.Prelude.{◌==◌, nat_lt, not, replicate, if◌then◌else◌}
+use Rattle.std.proofs.Common.{◌≡◌, ℕ, zero, suc, ◌+◌, ◌-◌, ◌<◌, ◌⊎◌, inl, inr, Bool, true, false, List, [], ◌∷◌, length, get_or, All, Option, Some, None, sym, subst}
+use Rattle.std.specs.Prelude.{◌==◌, nat_lt, not, if◌then◌else◌}
 use Rattle.std.proofs.Math.ListN.{set}
-use Rattle.std.proofs.lemmas.List.Elements.{All-cons, All-nil, All-head, All-tail, All-filter, All-set, All-push, All-append, All-drop, All-get_or, All-weaker, All-replicate}
+use Rattle.std.proofs.lemmas.List.Elements.{All-cons, All-nil, All-head, All-tail, All-filter, All-set, All-push, All-drop, All-get_or, All-weaker, All-replicate}
 use Rattle.rss_names.specs.declared.service.ServiceId.{ServiceId}
 use Rattle.rss_names.specs.declared.service.ServiceId.TheVariants.{Txn, Reg}
 use Rattle.rss_names.specs.Services.{same_service}
 use Rattle.carstamps.specs.Stamp.{stamp_lt}
 use Rattle.causal_context.specs.declared.dep.Dep.{Dep}
 use Rattle.causal_context.specs.Deps.{put_dep, deps_joined, deps_of, deps_fenced}
-use Rattle.causal_context.specs.Seen.{Seen, context_joined}
+use Rattle.causal_context.specs.Seen.{Seen}
 use Rattle.pipeline_lang.specs.declared.config.Config.{Config}
-use Rattle.pipeline_lang.specs.declared.config.Body.{Body}
-use Rattle.rss_model.specs.Scripts.{is_spawned}
-use Rattle.rss_tables.specs.Pipes.{Pipe, Chunk, EndMark, no_mark, fenced_mark, bare_mark, opening_pipe, pipe_put, pipe_taken}
+use Rattle.rss_tables.specs.Pipes.{Pipe, opening_pipe, pipe_put, pipe_taken}
 use Rattle.rss_machine.specs.Standing.{exit_context, exit_context_of}
-use Rattle.rss_machine.specs.State.{State, Stage, Owner, start, stages_from, opening_stage, no_stage, no_owner, stage_at, owner_at, pipe_at}
-use Rattle.rss_machine.specs.declared.state.Life.TheVariants.{Unborn, Live}
+use Rattle.rss_machine.specs.State.{State, Owner, start, stages_from, no_stage, no_owner, stage_at, owner_at, pipe_at}
 use Rattle.world_laws.specs.Contexts.{mark_deps, StageHolds, CopyHolds, ChunkHolds, PipeHolds, AllDeps}
 use Rattle.world_laws.proofs.Looks.{get_or_past}
 

@@ -1,6 +1,6 @@
 -- What owners do, each with the reason that the rows have for it: how an owner begins, comes to rest
 -- between its works, goes from work to work, leaves them for a round or its end, and hears replies.
-use Rattle.std.proofs.Common.{◌≡◌, ℕ, ◌<◌, Bool, true, false, List, [], ◌∷◌, ◌++◌, All, drop, length, Option, Some, None}
+use Rattle.std.proofs.Common.{◌≡◌, ℕ, ◌<◌, true, false, List, [], ◌∷◌, All, drop, length, Option, Some, None}
 use Rattle.std.specs.Prelude.{nat_lt}
 use Rattle.std.proofs.Math.ListN.{set}
 use Rattle.truetime.specs.Reading.{Reading}
@@ -8,10 +8,10 @@ use Rattle.rss_names.specs.declared.attempt.Attempt.{Attempt}
 use Rattle.rss_names.specs.declared.service.Key.{Key}
 use Rattle.rss_names.specs.declared.service.ServiceId.{ServiceId}
 use Rattle.rss_names.specs.declared.service.Target.{Target}
-use Rattle.rss_names.specs.declared.service.Target.TheVariants.{Shard, Replica}
+use Rattle.rss_names.specs.declared.service.Target.TheVariants.{Replica}
 use Rattle.causal_context.specs.declared.dep.Dep.{Dep}
 use Rattle.causal_context.specs.Deps.{deps_of, given_dep}
-use Rattle.causal_context.specs.Seen.{Seen, after_fence, fenced_outside, entered, deps_cleared}
+use Rattle.causal_context.specs.Seen.{after_fence, fenced_outside, entered, deps_cleared}
 use Rattle.pipeline_lang.specs.Config.{home_of, body_of}
 use Rattle.pipeline_lang.specs.declared.config.Config.{Config}
 use Rattle.pipeline_lang.specs.declared.script.Compare.{Compare}
@@ -30,7 +30,7 @@ use Rattle.rss_tables.specs.Outs.{Out, awaited, line_out, slot_replica}
 use Rattle.rss_tables.specs.RegisterSession.{RegSession, round_requests, session_after, phase_end}
 use Rattle.rss_tables.specs.SnapshotSession.{SnapSession, opening_snapshot, snap_starts, snap_end, snap_hears, snap_wakes}
 use Rattle.rss_tables.specs.TransactionSession.{TxnSession, opening_txn, txn_starts, txn_end, txn_hears, txn_wakes, txn_passes}
-use Rattle.rss_tables.specs.Works.{Works, planned, plan_for, plan_all, no_works}
+use Rattle.rss_tables.specs.Works.{planned, plan_for, plan_all}
 use Rattle.rss_tables.specs.declared.fences.FenceWork.{FenceWork}
 use Rattle.rss_tables.specs.declared.fences.FenceWork.TheVariants.{Nothing, Past, Fix}
 use Rattle.rss_tables.specs.declared.register_session.RegEnd.{RegEnd}

@@ -1,18 +1,17 @@
 -- Where scripts name the registers of the file alone, a run leaves each register of the file alone: no
 -- other one that is raised has its number. So the notes tell the step of every stamp.
-use Rattle.std.proofs.Common.{◌≡◌, ℕ, zero, suc, ◌+◌, ◌-◌, ◌<◌, ◌≤◌, ◌⊎◌, inl, inr, Bool, true, false, List, [], ◌∷◌, ◌++◌, All, length, Some, None, refl, ap, sym, ◌∙◌, subst, arith}
+use Rattle.std.proofs.Common.{◌≡◌, ℕ, ◌-◌, Bool, true, false, List, [], ◌∷◌, All, Some, refl, ap, sym, ◌∙◌, subst, arith}
 use Rattle.std.specs.Prelude.{◌==◌, ◌&&◌, ◌||◌, not}
 use Rattle.std.specs.List.{list_all}
-use Rattle.std.proofs.lemmas.Bool.{and_from, and_parts, eqb-true, eq-eqb, true≢false}
+use Rattle.std.proofs.lemmas.Bool.{and_from, and_parts, eqb-true}
 use Rattle.std.proofs.lemmas.List.Elements.{All-head, All-tail}
 use Rattle.rss_names.specs.declared.service.Key.{Key}
 use Rattle.rss_names.specs.declared.service.ServiceId.{ServiceId}
-use Rattle.rss_names.specs.declared.service.ServiceId.TheVariants.{Txn, Reg}
+use Rattle.rss_names.specs.declared.service.ServiceId.TheVariants.{Reg}
 use Rattle.rss_names.specs.declared.service.Target.{Target}
 use Rattle.rss_names.specs.declared.service.Target.TheVariants.{Shard, Replica}
-use Rattle.rss_names.specs.Services.{same_service, same_key}
+use Rattle.rss_names.specs.Services.{same_service}
 use Rattle.carstamps.specs.declared.carstamp.Carstamp.{Carstamp}
-use Rattle.causal_context.specs.declared.dep.Dep.{Dep}
 use Rattle.pipeline_lang.specs.Config.{service_of_register}
 use Rattle.pipeline_lang.specs.declared.config.Config.{Config}
 use Rattle.rss_wire.specs.Messages.{message_at}
@@ -29,9 +28,8 @@ use Rattle.world_laws.proofs.Alone.{is_apart, leaves_registers, leaves_alone, Is
 use Rattle.world_laws.specs.Laws.{AsksRegisters}
 use Rattle.world_laws.specs.Proper.{registers_of, are_kept_by, is_proper_body}
 use Rattle.world_laws.specs.Registers.{IsRegister, NamesRegisters}
-use Rattle.world_laws.proofs.Looks.{looks}
 use Rattle.world_laws.proofs.Marked.{marks_tell, same_service_itself, same_service_is}
-use Rattle.world_laws.proofs.Named.{RequestOn, Named}
+use Rattle.world_laws.proofs.Named.{RequestOn}
 use Rattle.world_laws.proofs.NamedRuns.{named_run}
 use Rattle.world_laws.proofs.RequestsProper.{proper_run}
 

@@ -1,25 +1,22 @@
 -- What never changes back, from one state of a run to every later one.
-use Rattle.std.proofs.Common.{◌≡◌, ℕ, ◌+◌, ◌-◌, ◌<◌, ◌≤◌, ◌⊎◌, true, false, List, [], ◌∷◌, ◌++◌, length, get_or, Option, Some, None, refl, ap, sym, ◌∙◌, subst, arith}
+use Rattle.std.proofs.Common.{◌≡◌, ℕ, ◌-◌, ◌≤◌, true, List, [], ◌∷◌, ◌++◌, get_or, Some, None, refl, subst, arith}
 use Rattle.std.proofs.Math.ListN.{set}
 use Rattle.std.proofs.lemmas.Bool.Decides.{nat_tests}
 use Rattle.rss_names.specs.declared.attempt.Attempt.{Attempt}
 use Rattle.rss_names.specs.declared.service.Key.{Key}
-use Rattle.rss_names.specs.declared.service.ServiceId.{ServiceId}
 use Rattle.carstamps.specs.declared.carstamp.Carstamp.{Carstamp}
 use Rattle.carstamps.specs.Stamp.{stamp_le, stamp_lt}
 use Rattle.causal_context.specs.declared.dep.Dep.{Dep}
 use Rattle.pipeline_lang.specs.declared.config.Config.{Config}
-use Rattle.rss_wire.specs.declared.message.Message.{Message}
-use Rattle.rss_wire.specs.Messages.{message_at, no_message}
 use Rattle.rss_wire.specs.declared.messages.Outcome.{Outcome}
 use Rattle.rss_wire.specs.declared.messages.RegReply.{RegReply}
 use Rattle.rss_wire.specs.declared.messages.Request.{Request}
 use Rattle.rss_wire.specs.declared.messages.Request.TheVariants as request
 use Rattle.rss_tables.specs.ReplicaRow.{held_at, accept, accept_all, dep_cell, replica_after}
-use Rattle.rss_tables.specs.ShardRow.{Shard, decision_in, shard_after, opening_shard}
+use Rattle.rss_tables.specs.ShardRow.{decision_in}
 use Rattle.rss_tables.proofs.ShardLaws.{first-decision, floor-rises}
-use Rattle.rss_machine.specs.State.{State, start, shard_at, replicas_at, cells_at, service_index}
-use Rattle.rss_machine.specs.Moves.{ticks, marks_message, sends_one, serves_shard, serves_replica, notes_served}
+use Rattle.rss_machine.specs.State.{State, shard_at, cells_at, service_index}
+use Rattle.rss_machine.specs.Moves.{ticks, serves_shard, serves_replica}
 use Rattle.rss_machine.specs.Effect.{stepped}
 use Rattle.rss_machine.specs.Refusal.{refusal}
 use Rattle.rss_machine.specs.Run.{run, run_from}
@@ -27,7 +24,7 @@ use Rattle.rss_machine.specs.declared.step.Step.{Step}
 use Rattle.world_laws.specs.Later.{stamp_in, Later}
 use Rattle.world_laws.proofs.Looks.{looks}
 use Rattle.world_laws.proofs.Runs.{passes, run_rest, run_none, run_split}
-use Rattle.world_laws.proofs.StoreWalk.{StoreKeeps, SameStores, store_walk}
+use Rattle.world_laws.proofs.StoreWalk.{StoreKeeps, store_walk}
 
 pub le_same : (a : Carstamp) → stamp_le a a ≡ true
 le_same a = grind (arith, nat_tests)

@@ -3,14 +3,14 @@ use Rattle.std.proofs.Common.{◌≡◌, ℕ, zero, suc, ◌+◌, ◌-◌, ◌<�
 use Rattle.std.specs.Prelude.{◌==◌, ◌&&◌, ◌||◌, not, is_some, replicate, if◌then◌else◌}
 use Rattle.std.specs.List.{list_all}
 use Rattle.std.specs.Option.{unwrap_or}
-use Rattle.std.proofs.Math.ListN.{set, length-set}
+use Rattle.std.proofs.Math.ListN.{set}
 use Rattle.std.proofs.lemmas.Bool.{and_parts, eqb-true, eq-eqb, true≢false, false≢true}
 use Rattle.std.proofs.lemmas.List.{length-replicate, set-get_or}
 use Rattle.rss_names.specs.declared.service.Key.{Key}
 use Rattle.rss_names.specs.declared.service.ServiceId.{ServiceId}
 use Rattle.rss_names.specs.declared.service.ServiceId.TheVariants.{Txn, Reg}
 use Rattle.rss_names.specs.declared.service.Target.{Target}
-use Rattle.rss_names.specs.declared.service.Target.TheVariants.{Shard, Replica}
+use Rattle.rss_names.specs.declared.service.Target.TheVariants.{Replica}
 use Rattle.rss_names.specs.Services.{same_service, same_key}
 use Rattle.causal_context.specs.declared.dep.Dep.{Dep}
 use Rattle.carstamps.specs.declared.carstamp.Carstamp.{Carstamp}
@@ -41,7 +41,6 @@ use Rattle.world_laws.specs.Later.{Later}
 use Rattle.world_laws.specs.Proper.{registers_of, are_kept_by, is_proper_body}
 use Rattle.world_laws.proofs.Looks.{looks, none_is_not, get_or_set, get_or_past, get_or_repeat}
 use Rattle.world_laws.proofs.Runs.{passes, run_rest, run_none}
-use Rattle.world_laws.proofs.Clock.{clock_step}
 use Rattle.world_laws.proofs.Holders.{stamp_at, held_some}
 use Rattle.world_laws.proofs.Later.{later_from}
 use Rattle.world_laws.proofs.Notes.{NoKey, OnlyKey, AreNoted, IsNotedAt, Notes, notes_long, notes_none, notes_serve}

@@ -1,8 +1,8 @@
 -- The notes of when a majority first held which stamp of a register, where one replica has served a request.
-use Rattle.std.proofs.Common.{◌≡◌, ℕ, zero, suc, ◌+◌, ◌<◌, ◌≤◌, ◌⊎◌, inl, inr, Bool, true, false, ◌&&◌, List, [], ◌∷◌, ◌++◌, map, length, get_or, Option, Some, None, refl, ap, ◌∙◌, sym, subst, arith}
-use Rattle.std.specs.Prelude.{◌==◌, is_some, if◌then◌else◌}
+use Rattle.std.proofs.Common.{◌≡◌, ℕ, ◌<◌, ◌⊎◌, inl, inr, Bool, true, false, List, [], ◌∷◌, ◌++◌, map, length, get_or, Option, Some, None, refl, ap, ◌∙◌, sym, subst, arith}
+use Rattle.std.specs.Prelude.{is_some, if◌then◌else◌}
 use Rattle.std.proofs.Math.ListN.{set, length-set}
-use Rattle.std.proofs.lemmas.Bool.{and_parts, eqb-true, true≢false, false≢true, cases_eq}
+use Rattle.std.proofs.lemmas.Bool.{true≢false}
 use Rattle.std.proofs.lemmas.List.{set-get_or}
 use Rattle.rss_names.specs.declared.service.Key.{Key}
 use Rattle.carstamps.specs.declared.carstamp.Carstamp.{Carstamp}
@@ -12,7 +12,7 @@ use Rattle.rss_wire.specs.declared.messages.RegReply.{RegReply}
 use Rattle.rss_wire.specs.declared.messages.Request.{Request}
 use Rattle.rss_wire.specs.declared.messages.Request.TheVariants as request
 use Rattle.rss_tables.specs.ReplicaRow.{held_at, accept, accept_all, dep_cell, replica_after}
-use Rattle.rss_machine.specs.Marks.{is_held, majority_stamp, first_mark, is_noted, noted, notes_keys, raised_by}
+use Rattle.rss_machine.specs.Marks.{is_held, majority_stamp, first_mark, noted, notes_keys, raised_by}
 use Rattle.rss_machine.specs.declared.state.Mark.{Mark}
 use Rattle.world_laws.proofs.Looks.{looks}
 use Rattle.world_laws.proofs.Later.{le_same, le_trans, after-rises}

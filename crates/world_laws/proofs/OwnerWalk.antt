@@ -2,12 +2,11 @@
 -- each dependency that stands anew comes with the reason that the rows have for it. The induction
 -- principle for what owners await, for the dependencies of contexts and for what calls leave behind.
 -- An owner is at rest where it goes from work to work within a step.
-use Rattle.std.proofs.Common.{◌≡◌, ℕ, ◌<◌, ◌⊎◌, inl, inr, Bool, true, false, List, [], ◌∷◌, ◌++◌, length, get_or, Option, Some, None, refl, ap, ◌∙◌, subst, arith}
-use Rattle.std.specs.Option.{option_map}
+use Rattle.std.proofs.Common.{◌≡◌, ℕ, ◌<◌, ◌⊎◌, inl, inr, Bool, true, false, List, [], ◌∷◌, ◌++◌, length, Option, Some, None, refl, ap, ◌∙◌, subst, arith}
 use Rattle.std.proofs.Math.ListN.{set}
 use Rattle.std.proofs.lemmas.List.{get_or-set_same}
 use Rattle.std.specs.Prelude.{◌+◌, nat_lt, ◌==◌, if◌then◌else◌}
-use Rattle.std.proofs.lemmas.Bool.{cond_both, ltb-true, and_parts}
+use Rattle.std.proofs.lemmas.Bool.{cond_both}
 use Rattle.truetime.specs.Reading.{Reading}
 use Rattle.rss_names.specs.declared.attempt.Attempt.{Attempt}
 use Rattle.rss_names.specs.declared.service.Key.{Key}
@@ -15,15 +14,12 @@ use Rattle.rss_names.specs.declared.service.ServiceId.{ServiceId}
 use Rattle.rss_names.specs.declared.service.Target.{Target}
 use Rattle.rss_names.specs.declared.service.Target.TheVariants.{Shard, Replica}
 use Rattle.causal_context.specs.declared.dep.Dep.{Dep}
-use Rattle.causal_context.specs.Deps.{deps_of}
-use Rattle.causal_context.specs.Seen.{Seen, after_txn}
+use Rattle.causal_context.specs.Seen.{Seen}
 use Rattle.pipeline_lang.specs.declared.config.Config.{Config}
 use Rattle.pipeline_lang.specs.declared.config.PipeEnds.{PipeEnds}
-use Rattle.pipeline_lang.specs.declared.script.Compare.{Compare}
-use Rattle.pipeline_lang.specs.declared.script.Expr.{Expr}
 use Rattle.pipeline_lang.specs.declared.script.Statement.{Statement}
 use Rattle.pipeline_lang.specs.declared.script.Statement.TheVariants as statement
-use Rattle.pipeline_lang.specs.Config.{replicas_of, ends_of, home_of, body_of}
+use Rattle.pipeline_lang.specs.Config.{replicas_of, home_of, body_of}
 use Rattle.rss_model.specs.CallStatement.{op_of_statement}
 use Rattle.rss_model.specs.declared.history.Entry.{Entry}
 use Rattle.rss_model.specs.declared.history.How.{How}
@@ -43,10 +39,7 @@ use Rattle.rss_wire.specs.declared.messages.Reply.{Reply}
 use Rattle.rss_wire.specs.declared.messages.Reply.TheVariants as reply
 use Rattle.rss_wire.specs.Messages.{message_at, no_message, is_sent}
 use Rattle.rss_wire.specs.declared.message.Message.{Message}
-use Rattle.rss_wire.specs.declared.refusal.NetRefusal.{NetRefusal}
-use Rattle.rss_wire.specs.declared.refusal.NetRefusal.TheVariants as refused
 use Rattle.rss_machine.specs.Refusal.{kind_refusal}
-use Rattle.rss_machine.specs.declared.step.StepRefusal.TheVariants as cause
 use Rattle.world_laws.proofs.Looks.{looks, some_is_not, get_or_past}
 use Rattle.world_laws.proofs.StoreWalk.{SameStores, Serves, IsSent, by_sent}
 use Rattle.rss_tables.specs.declared.endings.StubEnd.TheVariants.{Fenced, Unfenced}
@@ -64,10 +57,10 @@ use Rattle.rss_tables.specs.RegisterSession.{RegSession, round_requests, session
 use Rattle.rss_tables.specs.SnapshotSession.{SnapSession, opening_snapshot, snap_starts, snap_end, snap_hears, snap_wakes}
 use Rattle.rss_tables.specs.TransactionSession.{TxnSession, opening_txn, txn_starts, txn_end, shown_reply, txn_hears, txn_wakes, txn_passes, waiting_time}
 use Rattle.rss_tables.specs.Turns.{Turn}
-use Rattle.rss_machine.specs.Calls.{session_for, least_for, fixes, launches_register, launches_call, starts_at_register, starts_call, entered_first, works_over, goes_through, ends_work, launches_cleared, fix_ends, replies, register_ends, ends_at, forgets_if, txn_turns, snap_turns}
-use Rattle.rss_machine.specs.Effect.{begins_call, takes_end, takes, waits_over, makes, txn_line_wakes, snap_line_wakes, txn_acts, session_acts, owner_acts, acts, request_comes, fix_goes_on, register_goes_on, opens_round, stub_settles, owner_hears, reply_comes, comes, target_lost, is_cut_off, asks_again, replaces, loss_counts, loses, least_shard, settles, stub_starts, stub_acts, stub_of_stage, effect, stepped, waking_line}
+use Rattle.rss_machine.specs.Calls.{session_for, least_for, fixes, launches_call, starts_at_register, starts_call, entered_first, works_over, goes_through, ends_work, launches_cleared, fix_ends, register_ends, ends_at, forgets_if, txn_turns, snap_turns}
+use Rattle.rss_machine.specs.Effect.{begins_call, takes_end, takes, waits_over, makes, txn_line_wakes, snap_line_wakes, txn_acts, session_acts, owner_acts, acts, request_comes, fix_goes_on, register_goes_on, opens_round, stub_settles, owner_hears, reply_comes, comes, target_lost, is_cut_off, asks_again, replaces, loss_counts, loses, least_shard, stub_starts, stub_acts, stub_of_stage, effect, waking_line}
 use Rattle.rss_machine.specs.Enabling.{next_statement}
-use Rattle.rss_machine.specs.Moves.{ticks, marks_message, sends_one, sends, serves_shard, serves_replica, notes_served, opens_call, opens_fence, plans_stub, starts_stub, launches, gives_exit, exits, dies, ends_stub, loses_stub, is_to_end, closes, closes_from, cuts_pipe, cuts_from, closes_owner, session_without, cuts_off, counts_loss, counts_act, fence_ends, clears, forgets, turns_session, listens, goes_on, takes_chunk}
+use Rattle.rss_machine.specs.Moves.{marks_message, sends_one, sends, serves_shard, serves_replica, notes_served, opens_call, opens_fence, plans_stub, starts_stub, gives_exit, exits, dies, ends_stub, loses_stub, is_to_end, closes, closes_from, cuts_pipe, cuts_from, closes_owner, cuts_off, counts_loss, counts_act, fence_ends, clears, forgets, turns_session, listens, goes_on}
 use Rattle.rss_machine.specs.Slots.{slot_in}
 use Rattle.rss_machine.specs.Standing.{is_running, stage_state}
 use Rattle.rss_machine.specs.State.{State, Stage, Owner, no_owner, stage_at, owner_at, pipe_at}
@@ -77,7 +70,6 @@ use Rattle.rss_machine.specs.declared.session.OwnerKind.{OwnerKind}
 use Rattle.rss_machine.specs.declared.session.OwnerKind.TheVariants as kind
 use Rattle.rss_machine.specs.declared.session.Session.TheVariants as session
 use Rattle.rss_machine.specs.declared.state.OwnerFate.{OwnerFate}
-use Rattle.rss_machine.specs.declared.step.Step.{Step}
 use Rattle.rss_machine.specs.declared.step.StepKind.{StepKind}
 use Rattle.rss_machine.specs.declared.step.StepKind.TheVariants.{Act, Go, Lose, Again, Kill, Stub}
 use Rattle.rss_machine.specs.Session.{Session, service_of}
@@ -89,7 +81,7 @@ use Rattle.std.proofs.Math.ListN.{length-set}
 use Rattle.std.proofs.lemmas.List.{set-set}
 use Rattle.std.proofs.lemmas.List.Elements.{All-nil, All-set, All-push, All-head}
 use Rattle.causal_context.specs.Deps.{given_dep}
-use Rattle.causal_context.specs.Seen.{after_fence, fenced_outside, entered, deps_cleared}
+use Rattle.causal_context.specs.Seen.{fenced_outside, entered, deps_cleared}
 use Rattle.rss_model.specs.Cursor.{Cursor}
 use Rattle.rss_model.specs.declared.history.Entry.TheVariants.{Over}
 use Rattle.rss_model.specs.declared.history.How.TheVariants.{Exited}

@@ -1,31 +1,28 @@
 -- Every message is sound, in every run: replies fit their requests.
-use Rattle.std.proofs.Common.{◌≡◌, ℕ, ◌+◌, ◌<◌, ◌≤◌, ◌⊎◌, inl, inr, Bool, true, false, List, [], ◌∷◌, ◌++◌, length, Some, None, refl, ap, sym, ◌∙◌, subst, arith}
+use Rattle.std.proofs.Common.{◌≡◌, ℕ, ◌<◌, ◌≤◌, ◌⊎◌, inl, inr, Bool, true, false, List, [], ◌∷◌, ◌++◌, length, Some, None, refl, ap, sym, ◌∙◌, subst, arith}
 use Rattle.std.proofs.lemmas.Bool.{true≢false}
-use Rattle.rss_names.specs.declared.service.ServiceId.{ServiceId}
 use Rattle.rss_names.specs.declared.service.Target.{Target}
-use Rattle.rss_names.specs.declared.service.Target.TheVariants.{Shard, Replica}
 use Rattle.pipeline_lang.specs.declared.config.Config.{Config}
 use Rattle.rss_wire.specs.declared.envelope.Envelope.{Envelope}
-use Rattle.rss_wire.specs.declared.message.Body.{Body}
 use Rattle.rss_wire.specs.declared.message.Body.TheVariants as body
 use Rattle.rss_wire.specs.declared.message.Message.{Message}
 use Rattle.rss_wire.specs.declared.message.Fate.{Fate}
 use Rattle.rss_wire.specs.declared.message.Fate.TheVariants.{Pending}
 use Rattle.rss_wire.specs.declared.messages.Request.{Request}
 use Rattle.rss_wire.specs.declared.messages.Reply.{Reply}
-use Rattle.rss_wire.specs.Messages.{message_at, no_messages, asks, answers, meets, request_envelope, reply_envelope}
+use Rattle.rss_wire.specs.Messages.{message_at, asks, answers, meets, request_envelope, reply_envelope}
 use Rattle.rss_tables.specs.ReplicaRow.{replica_reply}
 use Rattle.rss_tables.specs.ShardRow.{shard_reply}
 use Rattle.rss_machine.specs.State.{State, start, shard_at, cells_at, owner_at}
-use Rattle.rss_machine.specs.Moves.{ticks, serves_shard, serves_replica}
+use Rattle.rss_machine.specs.Moves.{ticks}
 use Rattle.rss_machine.specs.Effect.{stepped}
 use Rattle.rss_machine.specs.Refusal.{refusal}
 use Rattle.rss_machine.specs.Run.{run, run_from}
 use Rattle.rss_machine.specs.declared.step.Step.{Step}
-use Rattle.world_laws.specs.Exchanges.{is_request, ShardReplies, ReplicaReplies, Fits, IsSound, Exchanges}
+use Rattle.world_laws.specs.Exchanges.{is_request, Fits, IsSound, Exchanges}
 use Rattle.world_laws.proofs.Looks.{looks}
 use Rattle.world_laws.proofs.Runs.{passes, run_rest, run_none}
-use Rattle.world_laws.proofs.StoreWalk.{StoreKeeps, SameStores, Serves, store_walk}
+use Rattle.world_laws.proofs.StoreWalk.{StoreKeeps, store_walk}
 
 -- bodies that are the same say the same
 request_same : (q p : Request) → body.Request q ≡ body.Request p → q ≡ p

@@ -1,13 +1,11 @@
 -- Every message of a run is proper: a replica is asked about registers of its own service alone.
-use Rattle.std.proofs.Common.{◌≡◌, ℕ, zero, suc, ◌+◌, ◌-◌, ◌<◌, ◌≤◌, ◌⊎◌, inl, inr, Bool, true, false, List, [], ◌∷◌, ◌++◌, length, get_or, Option, Some, None, refl, ap, sym, ◌∙◌, subst, arith}
-use Rattle.std.proofs.Math.ListN.{set}
+use Rattle.std.proofs.Common.{◌≡◌, ℕ, zero, suc, ◌-◌, ◌<◌, ◌≤◌, ◌⊎◌, inl, inr, true, List, [], ◌∷◌, ◌++◌, length, get_or, Some, None, refl, sym, ◌∙◌, subst, arith}
 use Rattle.std.proofs.lemmas.Bool.{and_parts}
 use Rattle.std.proofs.lemmas.Grind.{common_steps}
 use Rattle.rss_names.specs.declared.service.ServiceId.{ServiceId}
 use Rattle.rss_names.specs.declared.service.Target.{Target}
 use Rattle.pipeline_lang.specs.declared.config.Config.{Config}
 use Rattle.rss_wire.specs.declared.message.Body.{Body}
-use Rattle.rss_wire.specs.declared.message.Body.TheVariants as body
 use Rattle.rss_wire.specs.declared.message.Fate.{Fate}
 use Rattle.rss_wire.specs.declared.message.Message.{Message}
 use Rattle.rss_wire.specs.declared.messages.Request.{Request}
@@ -18,16 +16,14 @@ use Rattle.rss_machine.specs.Moves.{ticks, sends_one, sends, serves_replica, not
 use Rattle.rss_machine.specs.Refusal.{refusal}
 use Rattle.rss_machine.specs.Run.{run, run_from}
 use Rattle.rss_machine.specs.Session.{Session}
-use Rattle.rss_machine.specs.State.{State, start, owner_at, no_owner}
+use Rattle.rss_machine.specs.State.{State, start}
 use Rattle.rss_machine.specs.declared.step.Step.{Step}
-use Rattle.world_laws.specs.Exchanges.{is_request}
 use Rattle.world_laws.specs.Proper.{is_proper, is_proper_body, AreProper}
 use Rattle.world_laws.proofs.Looks.{looks, get_or_append, get_or_one, get_or_past}
 use Rattle.world_laws.proofs.Runs.{passes, run_rest, run_none}
 use Rattle.world_laws.proofs.Replies.{Sound, sound_keeps, sound_start, meets_envelope, meets_body}
 use Rattle.world_laws.proofs.Properly.{outs_proper, session_proper, turning-proper}
-use Rattle.world_laws.proofs.SessionWalk.{SessionKeeps, SameSessions, TurnsTo, Turning, IsLost, IsAgain, session_at, session_walk}
-use Rattle.world_laws.proofs.StoreWalk.{SameStores}
+use Rattle.world_laws.proofs.SessionWalk.{SessionKeeps, TurnsTo, IsAgain, session_at, session_walk}
 
 -- a message is proper
 abbrev is_fine : Message → Type 0

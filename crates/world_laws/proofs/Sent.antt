@@ -1,18 +1,15 @@
 -- What is sent: each request of an owner goes to a shard, or is the request of its round's phase to a
 -- replica of the round's service. And what is true of each request that was sent stays true of each.
-use Rattle.std.proofs.Common.{◌≡◌, ℕ, zero, suc, ◌+◌, ◌-◌, ◌<◌, ◌≤◌, ◌⊎◌, inl, inr, Bool, true, false, List, [], ◌∷◌, ◌++◌, All, length, get_or, Option, Some, None, refl, ap, sym, ◌∙◌, subst, arith}
-use Rattle.std.specs.Prelude.{⊤, ◌&&◌, if◌then◌else◌}
+use Rattle.std.proofs.Common.{◌≡◌, ℕ, zero, suc, ◌+◌, ◌-◌, ◌≤◌, ◌⊎◌, inl, inr, Bool, true, false, List, [], ◌∷◌, ◌++◌, All, get_or, Option, Some, None, refl, sym, ◌∙◌, subst, arith}
 use Rattle.std.proofs.lemmas.Bool.{cond_both, and_parts}
 use Rattle.std.proofs.lemmas.List.Elements.{All-cons, All-nil, All-head, All-tail}
 use Rattle.truetime.specs.Reading.{Reading}
 use Rattle.rss_names.specs.declared.attempt.Attempt.{Attempt}
-use Rattle.rss_names.specs.declared.service.ServiceId.{ServiceId}
 use Rattle.rss_names.specs.declared.service.Target.{Target}
 use Rattle.rss_names.specs.declared.service.Target.TheVariants.{Shard, Replica}
 use Rattle.causal_context.specs.declared.dep.Dep.{Dep}
 use Rattle.pipeline_lang.specs.declared.config.Config.{Config}
 use Rattle.rss_wire.specs.declared.envelope.Envelope.{Envelope}
-use Rattle.rss_wire.specs.declared.message.Body.{Body}
 use Rattle.rss_wire.specs.declared.message.Body.TheVariants as body
 use Rattle.rss_wire.specs.declared.message.Fate.{Fate}
 use Rattle.rss_wire.specs.declared.message.Fate.TheVariants.{Pending}
@@ -32,7 +29,7 @@ use Rattle.rss_machine.specs.declared.session.Session.TheVariants as session
 use Rattle.world_laws.proofs.Doings.{Leaving, waits, fixes_work, fixes_own, asks_register, stamps_register, begins_snapshot, begins_txn, fence_done, stub_done, ShardTurning, txn_heard, txn_woken, txn_passed, snap_heard, snap_woken, Doing, listens_one, fix_hears, fix_reached, register_hears, register_stores, register_reached, read_ends, write_ends, txn_ends, snap_ends, counts_one, cuts_one, is_closed, forgets_all, turns, stub_asks, fix_session}
 use Rattle.world_laws.proofs.Replies.{meets_envelope, meets_body}
 use Rattle.world_laws.proofs.RequestsProper.{either}
-use Rattle.world_laws.proofs.ShardRequests.{all_outs, lines-fine, snap-lines-fine, decision-fine, txn-fine, passed-fine, snap-fine, woken-fine}
+use Rattle.world_laws.proofs.ShardRequests.{all_outs, lines-fine, snap-lines-fine, txn-fine, passed-fine, snap-fine, woken-fine}
 
 -- a request that goes to a shard
 abbrev pub to_shard : Target → Request → Bool

@@ -1,43 +1,24 @@
 -- What transactions and snapshots send goes to shards: a test that each request to a shard passes, all of it passes.
-use Rattle.std.proofs.Common.{◌≡◌, ℕ, zero, suc, ◌+◌, ◌-◌, ◌<◌, ◌⊎◌, inl, inr, Bool, true, false, List, [], ◌∷◌, ◌++◌, map, length, get_or, Option, Some, None, refl, ap, sym, ◌∙◌, subst, arith}
+use Rattle.std.proofs.Common.{◌≡◌, ℕ, ◌+◌, Bool, true, List, [], ◌∷◌, ◌++◌, map, refl}
 use Rattle.std.specs.Prelude.{◌&&◌, if◌then◌else◌}
 use Rattle.std.specs.List.{list_all, filter}
 use Rattle.std.proofs.lemmas.Bool.{cond_both}
-use Rattle.std.proofs.lemmas.Bool.Decides.{nat_tests}
-use Rattle.std.proofs.lemmas.Grind.{common_steps}
-use Rattle.rss_names.specs.declared.service.Key.{Key}
-use Rattle.rss_names.specs.declared.service.ServiceId.{ServiceId}
-use Rattle.rss_names.specs.declared.service.ServiceId.TheVariants as service
 use Rattle.rss_names.specs.declared.service.Target.{Target}
-use Rattle.rss_names.specs.declared.service.Target.TheVariants.{Shard, Replica}
-use Rattle.rss_names.specs.Services.{same_service}
-use Rattle.causal_context.specs.declared.dep.Dep.{Dep}
-use Rattle.causal_context.specs.Deps.{deps_of}
-use Rattle.pipeline_lang.specs.declared.config.Config.{Config}
+use Rattle.rss_names.specs.declared.service.Target.TheVariants.{Shard}
 use Rattle.rss_wire.specs.declared.messages.Request.{Request}
-use Rattle.rss_wire.specs.declared.messages.Request.TheVariants as request
 use Rattle.rss_wire.specs.declared.messages.Reply.{Reply}
-use Rattle.rss_tables.specs.Outs.{Out, awaited}
-use Rattle.rss_tables.specs.RegisterSession.{RegSession, phase_request, requests_from, round_requests, session_after, opening_session}
-use Rattle.rss_tables.specs.declared.register_session.RegPhase.{RegPhase}
-use Rattle.rss_tables.specs.declared.register_session.RegPhase.TheVariants as phase
-use Rattle.rss_tables.specs.declared.register_session.RegWork.{RegWork}
-use Rattle.rss_tables.specs.declared.register_session.RegWork.TheVariants as work
-use Rattle.world_laws.specs.Proper.{registers_of, are_kept_by, is_proper, work_registers}
+use Rattle.rss_tables.specs.Outs.{Out}
 use Rattle.std.specs.Prelude.{not, nat_lt}
 use Rattle.std.proofs.lemmas.Bool.{and_parts, and_from}
 use Rattle.truetime.specs.Reading.{Reading}
 use Rattle.rss_names.specs.declared.attempt.Attempt.{Attempt}
-use Rattle.pipeline_lang.specs.Config.{home_of}
 use Rattle.rss_wire.specs.declared.messages.Holder.{Holder}
 use Rattle.rss_wire.specs.declared.messages.Outcome.{Outcome}
 use Rattle.rss_wire.specs.declared.messages.Outcome.TheVariants as outcome
 use Rattle.rss_wire.specs.declared.messages.Reply.TheVariants as reply
 use Rattle.rss_tables.specs.Lines.{Line, shards_of, with_line, all_answered, all_awaiting, in_state, blocked_outs, resolving_outs, woken_outs, tells_decision}
-use Rattle.rss_tables.specs.Round.{hears, is_reached}
-use Rattle.rss_tables.specs.RegisterSession.{reached, reply_cell}
-use Rattle.rss_tables.specs.SnapshotSession.{SnapSession, opening_snapshot, snap_starts, snap_asks, snap_hears, snap_wakes, snap_phase_ends, second_round, asked_again, must_ask_again, snapshot_time}
-use Rattle.rss_tables.specs.TransactionSession.{TxnSession, opening_txn, txn_starts, asks_lines, txn_hears, txn_wakes, txn_passes, goes_to_free, goes_to_prepare, is_locked, phase_ends, is_told, is_decided, is_committed, wait_of, attempt_of, guard_of, values_shown, leads, failing_time, is_phase_done}
+use Rattle.rss_tables.specs.SnapshotSession.{SnapSession, snap_asks, snap_hears, snap_phase_ends, second_round, asked_again, must_ask_again, snapshot_time}
+use Rattle.rss_tables.specs.TransactionSession.{TxnSession, asks_lines, txn_hears, txn_passes, goes_to_free, goes_to_prepare, is_locked, phase_ends, is_told, is_decided, is_committed, wait_of, attempt_of, guard_of, values_shown, leads, failing_time, is_phase_done}
 use Rattle.rss_tables.specs.Turns.{Turn, quiet}
 use Rattle.rss_tables.specs.declared.lines.LineState.{LineState}
 use Rattle.rss_tables.specs.declared.lines.LineState.TheVariants as line
@@ -45,12 +26,6 @@ use Rattle.rss_tables.specs.declared.phases.SnapPhase.{SnapPhase}
 use Rattle.rss_tables.specs.declared.phases.SnapPhase.TheVariants as snapphase
 use Rattle.rss_tables.specs.declared.phases.TxnPhase.{TxnPhase}
 use Rattle.rss_tables.specs.declared.phases.TxnPhase.TheVariants as txnphase
-use Rattle.rss_machine.specs.Calls.{session_for}
-use Rattle.rss_machine.specs.Moves.{session_without}
-use Rattle.rss_machine.specs.Session.{Session}
-use Rattle.rss_machine.specs.State.{State}
-use Rattle.rss_machine.specs.declared.session.Session.TheVariants as session
-use Rattle.world_laws.proofs.SessionWalk.{session_at, Turning, idles, loses_one, fixes_first, asks_register, stamps_register, fix_hears, register_hears, register_stores, snapshot_begins, txn_begins, txn_heard, txn_woken, txn_passed, snap_heard, snap_woken, stub_asks, stub_tells}
 
 -- whether all requests that are sent pass a test
 abbrev pub all_outs : (Target → Request → Bool) → List Out → Bool

@@ -1,112 +1,31 @@
 -- Predicates that stand on others: what is kept where another one is known.
-use Rattle.std.proofs.Common.{◌≡◌, ℕ, ◌<◌, ◌⊎◌, inl, inr, Bool, true, false, List, [], ◌∷◌, ◌++◌, length, get_or, Option, Some, None, refl, ap, ◌∙◌, subst, arith}
-use Rattle.std.specs.Option.{option_map}
+use Rattle.std.proofs.Common.{◌≡◌, ℕ, ◌<◌, false, List, [], ◌∷◌, ◌++◌, length, Option, Some, refl, ◌∙◌, subst}
 use Rattle.std.proofs.Math.ListN.{set}
-use Rattle.std.proofs.lemmas.List.{get_or-set_same}
-use Rattle.std.specs.Prelude.{◌+◌, nat_lt, ◌==◌, if◌then◌else◌}
-use Rattle.std.proofs.lemmas.Bool.{cond_both, ltb-true, and_parts}
 use Rattle.truetime.specs.Reading.{Reading}
 use Rattle.rss_names.specs.declared.attempt.Attempt.{Attempt}
-use Rattle.rss_names.specs.declared.service.Key.{Key}
 use Rattle.rss_names.specs.declared.service.ServiceId.{ServiceId}
 use Rattle.rss_names.specs.declared.service.Target.{Target}
 use Rattle.rss_names.specs.declared.service.Target.TheVariants.{Shard, Replica}
 use Rattle.causal_context.specs.declared.dep.Dep.{Dep}
-use Rattle.causal_context.specs.Deps.{deps_of}
-use Rattle.causal_context.specs.Seen.{Seen, after_txn}
 use Rattle.pipeline_lang.specs.declared.config.Config.{Config}
-use Rattle.pipeline_lang.specs.declared.config.PipeEnds.{PipeEnds}
-use Rattle.pipeline_lang.specs.declared.script.Compare.{Compare}
-use Rattle.pipeline_lang.specs.declared.script.Expr.{Expr}
-use Rattle.pipeline_lang.specs.declared.script.Statement.{Statement}
-use Rattle.pipeline_lang.specs.declared.script.Statement.TheVariants as statement
-use Rattle.pipeline_lang.specs.Config.{replicas_of, ends_of, home_of, body_of}
-use Rattle.rss_model.specs.CallStatement.{op_of_statement}
-use Rattle.rss_model.specs.declared.history.Entry.{Entry}
-use Rattle.rss_model.specs.declared.history.How.{How}
-use Rattle.rss_model.specs.declared.history.How.TheVariants.{Killed, Unavailable}
-use Rattle.rss_model.specs.declared.op.Op.{Op}
-use Rattle.rss_model.specs.declared.op.Op.TheVariants as op
-use Rattle.rss_model.specs.declared.op.Shown.{Shown}
-use Rattle.rss_wire.specs.declared.envelope.Envelope.{Envelope}
-use Rattle.rss_wire.specs.declared.message.Body.{Body as MessageBody}
 use Rattle.rss_wire.specs.declared.message.Body.TheVariants as body
 use Rattle.rss_wire.specs.declared.message.Fate.{Fate}
-use Rattle.rss_wire.specs.declared.message.Fate.TheVariants as fate
 use Rattle.rss_wire.specs.declared.messages.Outcome.{Outcome}
 use Rattle.rss_wire.specs.declared.messages.Request.{Request}
-use Rattle.rss_wire.specs.declared.messages.Request.TheVariants as request
-use Rattle.rss_wire.specs.declared.messages.Reply.{Reply}
 use Rattle.rss_wire.specs.declared.messages.Reply.TheVariants as reply
-use Rattle.rss_wire.specs.Messages.{message_at, no_message, is_sent}
-use Rattle.rss_wire.specs.declared.message.Message.{Message}
-use Rattle.rss_wire.specs.declared.refusal.NetRefusal.{NetRefusal}
-use Rattle.rss_wire.specs.declared.refusal.NetRefusal.TheVariants as refused
-use Rattle.rss_machine.specs.Refusal.{kind_refusal}
-use Rattle.rss_machine.specs.declared.step.StepRefusal.TheVariants as cause
-use Rattle.world_laws.proofs.Looks.{looks, some_is_not, get_or_past}
-use Rattle.world_laws.proofs.StoreWalk.{SameStores, Serves, IsSent, by_sent}
-use Rattle.rss_tables.specs.declared.endings.StubEnd.TheVariants.{Fenced, Unfenced}
-use Rattle.rss_tables.specs.declared.fences.FenceWork.{FenceWork}
-use Rattle.rss_tables.specs.declared.fences.FenceWork.TheVariants.{Nothing, Past, Fix}
-use Rattle.rss_tables.specs.declared.register_session.RegEnd.{RegEnd}
-use Rattle.rss_tables.specs.declared.register_session.RegEnd.TheVariants as ends
-use Rattle.rss_tables.specs.declared.register_session.RegWork.{RegWork}
-use Rattle.rss_tables.specs.declared.register_session.RegWork.TheVariants as work
-use Rattle.rss_tables.specs.Lines.{Line, line_at, tells_decision}
-use Rattle.rss_tables.specs.Losses.{losses_of, reaches_tries, is_quorum_lost}
-use Rattle.rss_tables.specs.Outs.{Out, awaited, line_out, slot_replica, slot_shard}
-use Rattle.rss_tables.specs.Pipes.{Pipe, Chunk, EndMark, no_mark, fenced_mark, bare_mark}
-use Rattle.rss_tables.specs.RegisterSession.{RegSession, round_requests, session_after, phase_end}
-use Rattle.rss_tables.specs.SnapshotSession.{SnapSession, opening_snapshot, snap_starts, snap_end, snap_hears, snap_wakes}
-use Rattle.rss_tables.specs.TransactionSession.{TxnSession, opening_txn, txn_starts, txn_end, shown_reply, txn_hears, txn_wakes, txn_passes, waiting_time}
-use Rattle.rss_tables.specs.Turns.{Turn}
-use Rattle.rss_machine.specs.Calls.{session_for, least_for, fixes, launches_register, launches_call, starts_at_register, starts_call, entered_first, works_over, goes_through, ends_work, launches_cleared, fix_ends, replies, register_ends, ends_at, forgets_if, txn_turns, snap_turns}
-use Rattle.rss_machine.specs.Effect.{begins_call, takes_end, takes, waits_over, makes, txn_line_wakes, snap_line_wakes, txn_acts, session_acts, owner_acts, acts, request_comes, fix_goes_on, register_goes_on, opens_round, stub_settles, owner_hears, reply_comes, comes, target_lost, is_cut_off, asks_again, replaces, loss_counts, loses, least_shard, settles, stub_starts, stub_acts, stub_of_stage, effect, stepped, waking_line}
-use Rattle.rss_machine.specs.Enabling.{next_statement}
-use Rattle.rss_machine.specs.Moves.{ticks, marks_message, sends_one, sends, serves_shard, serves_replica, notes_served, opens_call, opens_fence, plans_stub, starts_stub, launches, gives_exit, exits, dies, ends_stub, loses_stub, is_to_end, closes, closes_from, cuts_pipe, cuts_from, closes_owner, session_without, cuts_off, counts_loss, counts_act, fence_ends, clears, forgets, turns_session, listens, goes_on, takes_chunk}
-use Rattle.rss_machine.specs.Slots.{slot_in}
-use Rattle.rss_machine.specs.Standing.{is_running, stage_state}
-use Rattle.rss_machine.specs.State.{State, Stage, Owner, no_owner, stage_at, owner_at, pipe_at}
-use Rattle.rss_machine.specs.declared.ending.StageState.{StageState}
-use Rattle.rss_machine.specs.declared.ending.StageState.TheVariants as standing
-use Rattle.rss_machine.specs.declared.session.OwnerKind.{OwnerKind}
+use Rattle.rss_wire.specs.Messages.{message_at}
+use Rattle.world_laws.proofs.StoreWalk.{Serves}
+use Rattle.rss_tables.specs.Lines.{tells_decision}
+use Rattle.rss_tables.specs.Outs.{Out}
+use Rattle.rss_machine.specs.Moves.{marks_message, sends_one, sends, serves_shard, serves_replica, notes_served, plans_stub, listens}
+use Rattle.rss_machine.specs.State.{State, Owner, stage_at}
 use Rattle.rss_machine.specs.declared.session.OwnerKind.TheVariants as kind
 use Rattle.rss_machine.specs.declared.session.Session.TheVariants as session
-use Rattle.rss_machine.specs.declared.state.OwnerFate.{OwnerFate}
-use Rattle.rss_machine.specs.declared.step.Step.{Step}
-use Rattle.rss_machine.specs.declared.step.StepKind.{StepKind}
-use Rattle.rss_machine.specs.declared.step.StepKind.TheVariants.{Act, Go, Lose, Again, Kill, Stub}
-use Rattle.rss_machine.specs.Session.{Session, service_of}
-use Rattle.std.proofs.Common.{◌-◌, All, drop, sym}
-use Rattle.std.specs.Prelude.{⊤}
-use Rattle.std.proofs.lemmas.Bool.{true≢false}
-use Rattle.rss_machine.specs.Standing.{exit_context}
-use Rattle.std.proofs.Math.ListN.{length-set}
-use Rattle.std.proofs.lemmas.List.{set-set}
-use Rattle.std.proofs.lemmas.List.Elements.{All-nil, All-set, All-push, All-head}
-use Rattle.causal_context.specs.Deps.{given_dep}
-use Rattle.causal_context.specs.Seen.{after_fence, fenced_outside, entered, deps_cleared}
-use Rattle.rss_model.specs.Cursor.{Cursor}
-use Rattle.rss_model.specs.declared.history.Entry.TheVariants.{Over}
-use Rattle.rss_model.specs.declared.history.How.TheVariants.{Exited}
-use Rattle.rss_model.specs.declared.history.Token.TheVariants as token
-use Rattle.rss_tables.specs.Works.{planned, plan_for, plan_all, no_works}
-use Rattle.rss_tables.specs.declared.register_session.RegPhase.{RegPhase}
-use Rattle.rss_tables.specs.declared.register_session.RegPhase.TheVariants as phase
-use Rattle.rss_machine.specs.Calls.{goes_on_with_works, fenced_context}
-use Rattle.rss_machine.specs.Enabling.{is_enabled_at, stub_waits, stub_enabling_of}
-use Rattle.rss_machine.specs.Moves.{with_owner, closed, unsettled_by, enters, waits_for, spawns, receives, puts}
-use Rattle.rss_machine.specs.Refusal.{unless_enabled}
-use Rattle.rss_machine.specs.State.{no_currents, opening_owner}
-use Rattle.rss_machine.specs.declared.state.Life.TheVariants as life
-use Rattle.rss_machine.specs.declared.state.OwnerFate.TheVariants.{Ended, CutOff}
-use Rattle.rss_machine.specs.declared.turn.Enabling.TheVariants.{Never}
-use Rattle.world_laws.specs.Contexts.{AllDeps, StageHolds, CopyHolds, ChunkHolds, PipeHolds, mark_deps}
-use Rattle.world_laws.proofs.Contexts.{joined_hold, fenced_hold, stage_holds, stages_hold, copy_holds, pipe_holds, exit_holds, put_pipe, taken_pipe}
-use Rattle.world_laws.proofs.Doings.{Changed, Heard, fence_ended, turned, launched, listened, heard_to, reached_to, fix_session, Beginning, calls, fences, Resting, plans, past, fixed, cleared, Working, owes_nothing, is_past, enters_own, Leaving, waits, fixes_work, fixes_own, asks_register, stamps_register, begins_snapshot, begins_txn, fence_done, stub_done, ShardTurning, txn_heard, txn_woken, txn_passed, snap_heard, snap_woken, Doing, listens_one, fix_hears, fix_reached, register_hears, register_stores, register_reached, read_ends, write_ends, txn_ends, snap_ends, counts_one, cuts_one, is_closed, forgets_all, turns, stub_asks}
-use Rattle.world_laws.proofs.Looks.{none_is_not, some_is}
-use Rattle.world_laws.proofs.SessionWalk.{session_at, IsLost, IsAgain}
+use Rattle.std.proofs.Common.{sym}
+use Rattle.rss_tables.specs.Works.{no_works}
+use Rattle.rss_machine.specs.State.{opening_owner}
+use Rattle.world_laws.proofs.Doings.{Changed, Heard, Beginning, Resting, Working, Leaving, Doing}
+use Rattle.world_laws.proofs.SessionWalk.{session_at, IsAgain}
 use Rattle.world_laws.proofs.StoreWalk.{StoreKeeps}
 use Rattle.world_laws.proofs.OwnerWalk.{OwnerKeeps}
 use Rattle.world_laws.proofs.Replies.{Sound}

@@ -4,7 +4,7 @@
 use Rattle.std.proofs.Common.{◌≡◌, ℕ, ◌<◌, Bool, true, false, List, [], ◌∷◌, length, Option, Some, None, refl, subst, arith}
 use Rattle.std.specs.Option.{option_map}
 use Rattle.std.proofs.lemmas.List.{get_or-set_same}
-use Rattle.std.specs.Prelude.{◌+◌, nat_lt, ◌==◌, if◌then◌else◌}
+use Rattle.std.specs.Prelude.{◌+◌, nat_lt, if◌then◌else◌}
 use Rattle.std.proofs.lemmas.Bool.{cond_both, ltb-true, and_parts}
 use Rattle.truetime.specs.Reading.{Reading}
 use Rattle.rss_names.specs.declared.attempt.Attempt.{Attempt}
@@ -14,12 +14,12 @@ use Rattle.rss_names.specs.declared.service.Target.{Target}
 use Rattle.rss_names.specs.declared.service.Target.TheVariants.{Shard, Replica}
 use Rattle.causal_context.specs.declared.dep.Dep.{Dep}
 use Rattle.causal_context.specs.Deps.{deps_of}
-use Rattle.causal_context.specs.Seen.{Seen, after_txn}
+use Rattle.causal_context.specs.Seen.{Seen}
 use Rattle.pipeline_lang.specs.declared.config.Config.{Config}
 use Rattle.pipeline_lang.specs.declared.config.PipeEnds.{PipeEnds}
 use Rattle.pipeline_lang.specs.declared.script.Statement.{Statement}
 use Rattle.pipeline_lang.specs.declared.script.Statement.TheVariants as statement
-use Rattle.pipeline_lang.specs.Config.{replicas_of, ends_of, home_of, body_of}
+use Rattle.pipeline_lang.specs.Config.{replicas_of, home_of, body_of}
 use Rattle.rss_model.specs.CallStatement.{op_of_statement}
 use Rattle.rss_model.specs.declared.history.Entry.{Entry}
 use Rattle.rss_model.specs.declared.history.How.{How}
@@ -58,10 +58,10 @@ use Rattle.rss_tables.specs.RegisterSession.{RegSession, round_requests, session
 use Rattle.rss_tables.specs.SnapshotSession.{SnapSession, opening_snapshot, snap_starts, snap_end, snap_hears, snap_wakes}
 use Rattle.rss_tables.specs.TransactionSession.{TxnSession, opening_txn, txn_starts, txn_end, shown_reply, txn_hears, txn_wakes, txn_passes, waiting_time}
 use Rattle.rss_tables.specs.Turns.{Turn}
-use Rattle.rss_machine.specs.Calls.{session_for, least_for, fixes, launches_register, launches_call, starts_at_register, starts_call, entered_first, works_over, goes_through, ends_work, launches_cleared, fix_ends, replies, register_ends, ends_at, forgets_if, txn_turns, snap_turns}
-use Rattle.rss_machine.specs.Effect.{begins_call, takes_end, takes, waits_over, makes, txn_line_wakes, snap_line_wakes, txn_acts, session_acts, owner_acts, acts, request_comes, fix_goes_on, register_goes_on, opens_round, stub_settles, owner_hears, reply_comes, comes, target_lost, is_cut_off, asks_again, replaces, loss_counts, loses, least_shard, settles, stub_starts, stub_acts, stub_of_stage, effect, stepped, waking_line}
+use Rattle.rss_machine.specs.Calls.{session_for, least_for, fixes, launches_call, starts_at_register, starts_call, entered_first, works_over, goes_through, ends_work, launches_cleared, fix_ends, replies, register_ends, ends_at, forgets_if, txn_turns, snap_turns}
+use Rattle.rss_machine.specs.Effect.{begins_call, takes_end, takes, waits_over, makes, txn_line_wakes, snap_line_wakes, txn_acts, session_acts, owner_acts, acts, request_comes, fix_goes_on, register_goes_on, opens_round, stub_settles, owner_hears, reply_comes, comes, target_lost, is_cut_off, asks_again, replaces, loss_counts, loses, least_shard, stub_starts, stub_acts, stub_of_stage, effect, waking_line}
 use Rattle.rss_machine.specs.Enabling.{next_statement}
-use Rattle.rss_machine.specs.Moves.{ticks, marks_message, sends_one, sends, serves_shard, serves_replica, notes_served, opens_call, opens_fence, plans_stub, starts_stub, launches, gives_exit, exits, dies, ends_stub, loses_stub, is_to_end, closes, closes_from, cuts_pipe, cuts_from, closes_owner, cuts_off, counts_loss, counts_act, fence_ends, clears, forgets, turns_session, listens, goes_on, takes_chunk}
+use Rattle.rss_machine.specs.Moves.{marks_message, sends_one, sends, serves_shard, serves_replica, notes_served, opens_call, opens_fence, plans_stub, starts_stub, launches, gives_exit, exits, dies, ends_stub, loses_stub, is_to_end, closes, closes_from, cuts_pipe, cuts_from, closes_owner, cuts_off, counts_loss, counts_act, fence_ends, clears, forgets, turns_session, listens, goes_on, takes_chunk}
 use Rattle.rss_machine.specs.Slots.{slot_in}
 use Rattle.rss_machine.specs.Standing.{is_running, stage_state}
 use Rattle.rss_machine.specs.State.{State, Stage, Owner, stage_at, owner_at, pipe_at}
@@ -71,7 +71,6 @@ use Rattle.rss_machine.specs.declared.session.OwnerKind.{OwnerKind}
 use Rattle.rss_machine.specs.declared.session.OwnerKind.TheVariants as kind
 use Rattle.rss_machine.specs.declared.session.Session.TheVariants as session
 use Rattle.rss_machine.specs.declared.state.OwnerFate.{OwnerFate}
-use Rattle.rss_machine.specs.declared.step.Step.{Step}
 use Rattle.rss_machine.specs.declared.step.StepKind.{StepKind}
 use Rattle.rss_machine.specs.declared.step.StepKind.TheVariants.{Act, Go, Lose, Again, Kill, Stub}
 use Rattle.rss_machine.specs.Session.{Session, service_of}

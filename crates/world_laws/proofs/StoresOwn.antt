@@ -1,8 +1,7 @@
 -- Every store of a run is of its own call: the call is the writer, and the stamp is its own.
-use Rattle.std.proofs.Common.{◌≡◌, ℕ, zero, suc, ◌+◌, ◌-◌, ◌<◌, ◌⊎◌, inl, inr, Bool, true, false, ◌&&◌, List, [], ◌∷◌, ◌++◌, length, get_or, Option, Some, None, refl, ap, sym, ◌∙◌, subst, arith}
-use Rattle.std.specs.Prelude.{◌==◌, if◌then◌else◌}
-use Rattle.std.specs.List.{list_all}
-use Rattle.std.proofs.lemmas.Bool.{cond_both, and_parts, and_from, eqb-true, eq-eqb}
+use Rattle.std.proofs.Common.{◌≡◌, ℕ, zero, suc, ◌+◌, ◌-◌, ◌⊎◌, inl, inr, Bool, true, false, ◌&&◌, List, [], ◌∷◌, ◌++◌, get_or, Option, Some, None, refl, sym, ◌∙◌, subst, arith}
+use Rattle.std.specs.Prelude.{◌==◌}
+use Rattle.std.proofs.lemmas.Bool.{cond_both, and_parts, and_from, eq-eqb}
 use Rattle.std.proofs.lemmas.Grind.{common_steps}
 use Rattle.rss_names.specs.declared.service.ServiceId.{ServiceId}
 use Rattle.rss_names.specs.declared.service.Target.{Target}
@@ -11,14 +10,11 @@ use Rattle.rss_names.specs.Services.{same_service}
 use Rattle.causal_context.specs.Deps.{deps_of}
 use Rattle.pipeline_lang.specs.Config.{home_of}
 use Rattle.pipeline_lang.specs.declared.config.Config.{Config}
-use Rattle.rss_wire.specs.declared.envelope.Envelope.{Envelope}
 use Rattle.rss_wire.specs.declared.message.Body.{Body}
-use Rattle.rss_wire.specs.declared.message.Body.TheVariants as body
 use Rattle.rss_wire.specs.declared.message.Fate.{Fate}
 use Rattle.rss_wire.specs.declared.message.Message.{Message}
 use Rattle.rss_wire.specs.declared.messages.Reply.{Reply}
 use Rattle.rss_wire.specs.declared.messages.Request.{Request}
-use Rattle.rss_wire.specs.declared.messages.Request.TheVariants as request
 use Rattle.rss_wire.specs.Messages.{message_at, meets}
 use Rattle.rss_tables.specs.Outs.{Out, awaited}
 use Rattle.rss_tables.specs.RegisterSession.{RegSession, phase_request, requests_from, round_requests, session_after, reached, reply_cell}
@@ -28,10 +24,10 @@ use Rattle.rss_tables.specs.declared.register_session.RegPhase.TheVariants as ph
 use Rattle.rss_tables.specs.declared.register_session.RegWork.{RegWork}
 use Rattle.rss_tables.specs.declared.register_session.RegWork.TheVariants as work
 use Rattle.rss_tables.specs.SnapshotSession.{opening_snapshot}
-use Rattle.rss_tables.specs.TransactionSession.{opening_txn, attempt_of}
+use Rattle.rss_tables.specs.TransactionSession.{opening_txn}
 use Rattle.rss_machine.specs.Calls.{session_for}
 use Rattle.rss_machine.specs.Effect.{stepped}
-use Rattle.rss_machine.specs.Moves.{ticks, sends_one, sends, session_without, serves_replica, notes_served}
+use Rattle.rss_machine.specs.Moves.{ticks, sends_one, sends, session_without, serves_replica}
 use Rattle.rss_machine.specs.Refusal.{refusal}
 use Rattle.rss_machine.specs.Run.{run, run_from}
 use Rattle.rss_machine.specs.Session.{Session}
@@ -39,13 +35,11 @@ use Rattle.rss_machine.specs.State.{State, start}
 use Rattle.rss_machine.specs.declared.session.Session.TheVariants as session
 use Rattle.rss_machine.specs.declared.step.Step.{Step}
 use Rattle.world_laws.specs.Own.{is_own, is_own_body, AreOwn}
-use Rattle.world_laws.proofs.Looks.{looks}
 use Rattle.world_laws.proofs.Runs.{passes, run_rest, run_none}
 use Rattle.world_laws.proofs.Replies.{Sound, sound_keeps, sound_start, meets_envelope, meets_body}
 use Rattle.world_laws.proofs.RequestsProper.{either, sends_same, served_same}
-use Rattle.world_laws.proofs.SessionWalk.{SessionKeeps, SameSessions, TurnsTo, Turning, IsLost, IsAgain, session_at, session_walk, idles, loses_one, fixes_first, asks_register, stamps_register, fix_hears, register_hears, register_stores, snapshot_begins, txn_begins, txn_heard, txn_woken, txn_passed, snap_heard, snap_woken, stub_asks, stub_tells}
+use Rattle.world_laws.proofs.SessionWalk.{SessionKeeps, TurnsTo, Turning, IsAgain, session_at, session_walk, idles, loses_one, fixes_first, asks_register, stamps_register, fix_hears, register_hears, register_stores, snapshot_begins, txn_begins, txn_heard, txn_woken, txn_passed, snap_heard, snap_woken, stub_asks, stub_tells}
 use Rattle.world_laws.proofs.ShardRequests.{all_outs, lines-fine, snap-lines-fine, decision-fine, txn-fine, passed-fine, snap-fine, woken-fine}
-use Rattle.world_laws.proofs.StoreWalk.{SameStores}
 
 -- a session is its owner's, and the stamp that it stores is
 abbrev pub phase_own : ℕ → RegPhase → Bool

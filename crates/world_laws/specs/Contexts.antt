@@ -1,6 +1,6 @@
 -- Where dependencies stand: in the contexts of stages, of the chunks and end marks of pipes, and of the
 -- copies that owners go through their works with.
-use Rattle.std.specs.Prelude.{ℕ, List, []}
+use Rattle.std.specs.Prelude.{List, []}
 use Rattle.std.specs.List.{All}
 use Rattle.causal_context.specs.declared.dep.Dep.{Dep}
 use Rattle.rss_tables.specs.Pipes.{Pipe, Chunk, EndMark, no_mark, fenced_mark, bare_mark}
