@@ -56,12 +56,13 @@ use Rattle.reg_laws.specs.Rounds.{EndsHeld, RoundsSee, SeesSteps}
 use Rattle.reg_laws.proofs.Base.{sound_of, fine_of}
 use Rattle.reg_laws.proofs.Dates.{DatesUpTo, up_to_run, DatesSince, dated_since_from}
 use Rattle.reg_laws.proofs.Hearing.{round_valid}
-use Rattle.reg_laws.proofs.Rounds.{PhaseHeld, round_held, Settled, SettledAt, settled_run}
+use Rattle.reg_laws.proofs.RoundsHeld.{PhaseHeld}
+use Rattle.reg_laws.proofs.Rounds.{round_held, Settled, SettledAt, settled_run}
 use Rattle.reg_laws.proofs.Shapes.{SameShape}
 use Rattle.reg_laws.proofs.Since.{PhaseSees, HeldBefore, RoundSince, SessionSince, OwnerSince, Seeing, seeing_kept}
 use Rattle.reg_laws.proofs.Tells.{Telling, telling_same}
 use Rattle.reg_laws.proofs.Valid.{AboveIn}
-use Rattle.reg_laws.proofs.ValidRuns.{each_kept}
+use Rattle.reg_laws.proofs.ValidServes.{each_kept}
 
 -- the stores of registers are the same
 pub record SameKept (s t : State) : Type 0 where

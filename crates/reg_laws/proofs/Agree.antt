@@ -39,7 +39,8 @@ use Rattle.rss_machine.specs.Session.{service_of}
 use Rattle.world_laws.proofs.StackRuns.{IsKept, kept_run}
 use Rattle.world_laws.proofs.Stacked.{under_more}
 use Rattle.reg_laws.specs.Agree.{WorkAgrees, CallAgrees, FixAgrees, Agrees, AllAgree}
-use Rattle.reg_laws.proofs.Awaits.{Awaiting, AtRest, IsFree, set_each, grow_each, beginning_idle, awaited_under, awaited_start}
+use Rattle.reg_laws.proofs.Awaiting.{Awaiting, AtRest, IsFree, set_each, grow_each}
+use Rattle.reg_laws.proofs.Awaits.{beginning_idle, awaited_under, awaited_start}
 
 abbrev Agreed : Owner → Type 0
 Agreed w = Agrees w w.session

@@ -19,7 +19,8 @@ use Rattle.world_laws.proofs.Runs.{passes, run_keeps}
 use Rattle.world_laws.proofs.SessionOwner.{session_owner}
 use Rattle.world_laws.proofs.Stacked.{OwnerKeepsUnder, stacked, side_by_side, under_more}
 use Rattle.world_laws.proofs.StoresOwn.{Owned, owned_keeps, owned_start}
-use Rattle.reg_laws.proofs.Awaits.{Awaiting, AtRest, awaited_under, awaited_start}
+use Rattle.reg_laws.proofs.Awaiting.{Awaiting, AtRest}
+use Rattle.reg_laws.proofs.Awaits.{awaited_under, awaited_start}
 
 abbrev pub Messages : Config → State → Type 0
 Messages c s = ((Sound s × Named (IsRegister c) s) × Fine s) × Owned s

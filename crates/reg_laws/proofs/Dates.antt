@@ -30,7 +30,7 @@ use Rattle.rss_machine.specs.declared.state.Dates.{Dates}
 use Rattle.world_laws.proofs.Clock.{clock_step}
 use Rattle.world_laws.proofs.OwnerWalk.{OwnerMoves}
 use Rattle.world_laws.proofs.Runs.{run_keeps, steps_keep}
-use Rattle.reg_laws.proofs.Awaits.{set_each, grow_each}
+use Rattle.reg_laws.proofs.Awaiting.{set_each, grow_each}
 
 -- how the dates of an owner change in a step of this number
 pub data DateChange (n : ℕ) (d : Dates) : Dates → Type 0 where

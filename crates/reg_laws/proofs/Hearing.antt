@@ -44,7 +44,8 @@ use Rattle.rss_machine.specs.Session.{service_of}
 use Rattle.world_laws.proofs.Contexts.{at_place, of_hold, copy_holds}
 use Rattle.world_laws.proofs.Named.{phase_deps, end_deps}
 use Rattle.reg_laws.specs.Stored.{IsValid, DepIsValid}
-use Rattle.reg_laws.proofs.Awaits.{Awaiting, heard_awaited}
+use Rattle.reg_laws.proofs.Awaiting.{Awaiting}
+use Rattle.reg_laws.proofs.AwaitsOf.{heard_awaited}
 use Rattle.reg_laws.proofs.Base.{Known, sound_of}
 use Rattle.reg_laws.proofs.Valid.{found_holds, hears_holds, nobody_holds, work_deps, asks_about, AboveIn, RoundValid, SessionValid, OwnerValid, ValidIn, Valid}
 

@@ -1,12 +1,17 @@
+pub mod Awaiting
+pub mod AwaitsOf
 pub mod Awaits
 pub mod Base
 pub mod Stores
 pub mod Valid
 pub mod Hearing
+pub mod ValidSends
+pub mod ValidServes
 pub mod ValidRuns
 pub mod Tells
 pub mod Shapes
 pub mod Proves
+pub mod RoundsHeld
 pub mod Rounds
 pub mod Since
 pub mod Dates

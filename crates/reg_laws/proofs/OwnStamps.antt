@@ -42,7 +42,8 @@ use Rattle.std.proofs.lemmas.Bool.{and_parts}
 use Rattle.carstamps.specs.declared.carstamp.Carstamp.{Carstamp}
 use Rattle.world_laws.specs.Registers.{NamesRegisters}
 use Rattle.world_laws.proofs.StoresOwn.{Owned, session_own, round_own, phase_own}
-use Rattle.reg_laws.proofs.Awaits.{set_each, grow_each, beginning_idle}
+use Rattle.reg_laws.proofs.Awaiting.{set_each, grow_each}
+use Rattle.reg_laws.proofs.Awaits.{beginning_idle}
 use Rattle.reg_laws.proofs.Base.{Known, KnownAt, owned_of, known_run}
 
 -- the stamp that a phase stores, or has stored

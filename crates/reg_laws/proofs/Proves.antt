@@ -52,7 +52,8 @@ use Rattle.reg_laws.proofs.Base.{Known, KnownAt, sound_of, at_rest, known_keeps,
 use Rattle.reg_laws.proofs.Shapes.{Shapes, Within, accept_long, shape_rows, shape_cells, shapes_under, shapes_ticks, shapes_start}
 use Rattle.reg_laws.proofs.Tells.{RepliesHold, hold_weaker, hold_meets, hold_asks, hold_shard, hold_replica, shows}
 use Rattle.reg_laws.proofs.Valid.{Valid}
-use Rattle.reg_laws.proofs.ValidRuns.{ServedWell, served_well, valid_under, valid_ticks, valid_start}
+use Rattle.reg_laws.proofs.ValidServes.{ServedWell, served_well}
+use Rattle.reg_laws.proofs.ValidRuns.{valid_under, valid_ticks, valid_start}
 
 -- of two stamps one is at least the other
 not_lt_le : (a b : Carstamp) → stamp_lt a b ≡ false → stamp_le b a ≡ true

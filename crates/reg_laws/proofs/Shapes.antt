@@ -55,9 +55,10 @@ use Rattle.world_laws.specs.Registers.{IsRegister}
 use Rattle.world_laws.proofs.Contexts.{at_place}
 use Rattle.world_laws.proofs.StoreWalk.{StoreKeeps}
 use Rattle.reg_laws.specs.Files.{IsNext, next_number, AreNumbered, IsInOrder}
-use Rattle.reg_laws.proofs.Awaits.{hears_replicas, beginning_idle}
+use Rattle.reg_laws.proofs.AwaitsOf.{hears_replicas}
+use Rattle.reg_laws.proofs.Awaits.{beginning_idle}
 use Rattle.reg_laws.proofs.Base.{Known, KnownAt, sound_of}
-use Rattle.reg_laws.proofs.ValidRuns.{placed}
+use Rattle.reg_laws.proofs.ValidServes.{placed}
 
 -- the replicas are as many as in another state, and each has as many registers
 pub record SameShape (u s : State) : Type 0 where

@@ -68,9 +68,12 @@ use Rattle.world_laws.proofs.Stacked.{side_by_side}
 use Rattle.world_laws.proofs.StackRuns.{IsKept}
 use Rattle.reg_laws.specs.Files.{IsInOrder}
 use Rattle.reg_laws.specs.Told.{asked_of, shown_stamp, Tells}
-use Rattle.reg_laws.proofs.Awaits.{AtRest, hears_replicas, beginning_idle, none_current, idle_current, current_more, current_less, current_without, slot_current}
+use Rattle.reg_laws.proofs.Awaiting.{AtRest, none_current, idle_current, current_more, current_less, current_without, slot_current}
+use Rattle.reg_laws.proofs.AwaitsOf.{hears_replicas}
+use Rattle.reg_laws.proofs.Awaits.{beginning_idle}
 use Rattle.reg_laws.proofs.Hearing.{heard_asked}
-use Rattle.reg_laws.proofs.Rounds.{nobody_heard_at, hears_cell, majority_held, rows_of, round_held, Settled, SettledAt, settled_kept}
+use Rattle.reg_laws.proofs.RoundsHeld.{nobody_heard_at, hears_cell, majority_held}
+use Rattle.reg_laws.proofs.Rounds.{rows_of, round_held, Settled, SettledAt, settled_kept}
 use Rattle.reg_laws.proofs.Shapes.{SameShape}
 use Rattle.reg_laws.proofs.Tells.{Telling, telling_keeps}
 

@@ -60,7 +60,8 @@ use Rattle.world_laws.specs.Registers.{NamesRegisters}
 use Rattle.world_laws.proofs.RequestsProper.{served_same}
 use Rattle.world_laws.proofs.SessionOwner.{same_sessions, grown_sessions}
 use Rattle.reg_laws.specs.Stored.{WasStored, StampsName}
-use Rattle.reg_laws.proofs.Awaits.{IsFix, FixesOnly, OwnAwaited, set_each, set_there, nobody_sends, leaving_fixes, doing_fixes, beginning_idle}
+use Rattle.reg_laws.proofs.Awaiting.{IsFix, FixesOnly, OwnAwaited, set_each, set_there}
+use Rattle.reg_laws.proofs.Awaits.{nobody_sends, leaving_fixes, doing_fixes, beginning_idle}
 use Rattle.reg_laws.proofs.Base.{Known, KnownAt, sound_of, owned_of, known_run}
 
 -- the stamp that a phase stores, or has stored
