@@ -46,7 +46,8 @@ use Rattle.world_laws.specs.Proper.{work_registers}
 use Rattle.world_laws.proofs.Clock.{clock_step, run_counted}
 use Rattle.world_laws.proofs.Contexts.{at_place}
 use Rattle.world_laws.proofs.Marked.{first_one, first_more, first_none}
-use Rattle.world_laws.proofs.OwnerWalk.{OwnerMoves, Served, moves_or_serves}
+use Rattle.world_laws.proofs.OwnerMoves.{OwnerMoves}
+use Rattle.world_laws.proofs.OwnerWalk.{Served, moves_or_serves}
 use Rattle.world_laws.proofs.Properly.{session_proper}
 use Rattle.world_laws.proofs.RequestsProper.{Fine}
 use Rattle.world_laws.proofs.Runs.{run_ends, run_before, run_from_more, run_split, run_is}

@@ -47,7 +47,7 @@ use Rattle.rss_machine.specs.Slots.{slot_in, with_current}
 use Rattle.world_laws.specs.Exchanges.{Fits, Exchanges}
 use Rattle.world_laws.proofs.Doings.{listened}
 use Rattle.world_laws.proofs.Looks.{get_or_past}
-use Rattle.world_laws.proofs.OwnerWalk.{is_busy, busy_there}
+use Rattle.world_laws.proofs.OwnerMoves.{is_busy, busy_there}
 use Rattle.world_laws.proofs.RequestsProper.{sends_same}
 use Rattle.world_laws.proofs.Stacked.{SentBefore}
 use Rattle.reg_laws.specs.Awaited.{IsAsked, IsAwaited, CurrentsAwaited, IsOwnReply, IsRound, RepliesAreOwn}

@@ -40,7 +40,7 @@ use Rattle.rss_machine.specs.Moves.{round_without}
 use Rattle.rss_machine.specs.State.{no_currents}
 use Rattle.world_laws.proofs.Doings.{turned, fix_session}
 use Rattle.world_laws.proofs.Looks.{some_is_not}
-use Rattle.world_laws.proofs.OwnerWalk.{is_busy}
+use Rattle.world_laws.proofs.OwnerMoves.{is_busy}
 use Rattle.world_laws.proofs.Properly.{after-stays}
 use Rattle.world_laws.proofs.Sent.{round_outs}
 use Rattle.reg_laws.specs.Awaited.{IsAsked, IsAwaited}

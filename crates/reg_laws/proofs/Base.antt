@@ -12,7 +12,8 @@ use Rattle.rss_machine.specs.declared.step.Step.{Step}
 use Rattle.world_laws.specs.Registers.{IsRegister, NamesRegisters}
 use Rattle.world_laws.proofs.Named.{Named}
 use Rattle.world_laws.proofs.NamedRuns.{named_keeps, named_ticks, named_start}
-use Rattle.world_laws.proofs.OwnerWalk.{OwnerKeeps, owner_walk}
+use Rattle.world_laws.proofs.OwnerMoves.{OwnerKeeps}
+use Rattle.world_laws.proofs.OwnerWalk.{owner_walk}
 use Rattle.world_laws.proofs.Replies.{Sound, sound_start}
 use Rattle.world_laws.proofs.RequestsProper.{Fine, fine_keeps, fine_start}
 use Rattle.world_laws.proofs.Runs.{passes, run_keeps}

@@ -17,7 +17,8 @@ use Rattle.rss_machine.specs.Run.{run, run_from}
 use Rattle.rss_machine.specs.State.{State, Owner, start, owner_at, no_owner}
 use Rattle.rss_machine.specs.declared.step.Step.{Step}
 use Rattle.world_laws.proofs.Doings.{Beginning, calls, fences, Resting, plans, past, fixed, cleared, Working, owes_nothing, is_past, enters_own, Leaving, waits, fixes_work, fixes_own, asks_register, stamps_register, begins_snapshot, begins_txn, fence_done, stub_done, Doing, listens_one, fix_hears, fix_reached, register_hears, register_stores, register_reached, read_ends, write_ends, txn_ends, snap_ends, counts_one, cuts_one, is_closed, forgets_all, turns, stub_asks}
-use Rattle.world_laws.proofs.OwnerWalk.{OwnerKeeps, owner_walk}
+use Rattle.world_laws.proofs.OwnerMoves.{OwnerKeeps}
+use Rattle.world_laws.proofs.OwnerWalk.{owner_walk}
 use Rattle.world_laws.proofs.Runs.{passes}
 use Rattle.world_laws.proofs.Runs.{run_keeps}
 use Rattle.std.proofs.Common.{◌⊎◌, inl, inr}
@@ -28,7 +29,7 @@ use Rattle.rss_machine.specs.Run.{run, run_from}
 use Rattle.rss_machine.specs.State.{dated}
 use Rattle.rss_machine.specs.declared.state.Dates.{Dates}
 use Rattle.world_laws.proofs.Clock.{clock_step}
-use Rattle.world_laws.proofs.OwnerWalk.{OwnerMoves}
+use Rattle.world_laws.proofs.OwnerMoves.{OwnerMoves}
 use Rattle.world_laws.proofs.Runs.{run_keeps, steps_keep}
 use Rattle.reg_laws.proofs.Awaiting.{set_each, grow_each}
 

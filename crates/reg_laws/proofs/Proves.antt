@@ -21,7 +21,7 @@ use Rattle.rss_machine.specs.Moves.{ticks, sends_one, sends, serves_replica, not
 use Rattle.rss_machine.specs.Run.{run}
 use Rattle.rss_machine.specs.State.{State, start, owner_at}
 use Rattle.rss_machine.specs.declared.step.Step.{Step}
-use Rattle.world_laws.proofs.OwnerWalk.{OwnerKeeps}
+use Rattle.world_laws.proofs.OwnerMoves.{OwnerKeeps}
 use Rattle.world_laws.proofs.Replies.{Sound, sound_keeps}
 use Rattle.world_laws.proofs.Stacked.{OwnerKeepsUnder, stacked}
 use Rattle.std.proofs.Common.{◌-◌, ◌⊎◌, inl, inr}

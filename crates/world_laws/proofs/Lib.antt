@@ -18,6 +18,10 @@ pub mod Marked
 pub mod Ascending
 pub mod Contexts
 pub mod Doings
+pub mod OwnerMoves
+pub mod OwnerWorks
+pub mod OwnerActs
+pub mod OwnerHears
 pub mod OwnerWalk
 pub mod Sent
 pub mod Named

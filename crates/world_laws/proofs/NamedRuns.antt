@@ -29,7 +29,8 @@ use Rattle.world_laws.specs.Registers.{statement_registers}
 use Rattle.world_laws.proofs.Contexts.{deps_start}
 use Rattle.world_laws.proofs.Doings.{Changed, Beginning, calls, fences}
 use Rattle.world_laws.proofs.Looks.{some_is, none_is_not}
-use Rattle.world_laws.proofs.OwnerWalk.{OwnerKeeps, owner_walk}
+use Rattle.world_laws.proofs.OwnerMoves.{OwnerKeeps}
+use Rattle.world_laws.proofs.OwnerWalk.{owner_walk}
 use Rattle.world_laws.proofs.Runs.{passes}
 use Rattle.world_laws.proofs.Sent.{SessionOut, IsTold, decision_outs, leaving_outs, doing_outs, sends_each, SentAll, sent_meets, sent_asks, sent_answers}
 use Rattle.world_laws.proofs.SessionWalk.{IsAgain}

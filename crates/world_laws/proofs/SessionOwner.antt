@@ -14,7 +14,7 @@ use Rattle.rss_machine.specs.Moves.{sends, listens, plans_stub}
 use Rattle.rss_machine.specs.Session.{Session}
 use Rattle.rss_machine.specs.State.{State, Owner, owner_at, no_owner}
 use Rattle.rss_machine.specs.declared.session.Session.TheVariants as session
-use Rattle.world_laws.proofs.OwnerWalk.{OwnerKeeps}
+use Rattle.world_laws.proofs.OwnerMoves.{OwnerKeeps}
 use Rattle.world_laws.proofs.SessionWalk.{session_at}
 use Rattle.world_laws.proofs.StoreWalk.{SameStores}
 use Rattle.std.proofs.Common.{◌⊎◌, inl, inr}

@@ -9,7 +9,8 @@ use Rattle.rss_machine.specs.Refusal.{refusal}
 use Rattle.rss_machine.specs.Run.{run, run_from}
 use Rattle.rss_machine.specs.State.{State, start}
 use Rattle.rss_machine.specs.declared.step.Step.{Step}
-use Rattle.world_laws.proofs.OwnerWalk.{OwnerKeeps, owner_walk}
+use Rattle.world_laws.proofs.OwnerMoves.{OwnerKeeps}
+use Rattle.world_laws.proofs.OwnerWalk.{owner_walk}
 use Rattle.world_laws.proofs.Runs.{passes, run_keeps, steps_keep}
 
 -- a predicate, with the one for an owner at rest, that owners keep and the clock does

@@ -27,7 +27,7 @@ use Rattle.rss_machine.specs.State.{opening_owner}
 use Rattle.world_laws.proofs.Doings.{Changed, Heard, Beginning, Resting, Working, Leaving, Doing}
 use Rattle.world_laws.proofs.SessionWalk.{session_at, IsAgain}
 use Rattle.world_laws.proofs.StoreWalk.{StoreKeeps}
-use Rattle.world_laws.proofs.OwnerWalk.{OwnerKeeps}
+use Rattle.world_laws.proofs.OwnerMoves.{OwnerKeeps}
 use Rattle.world_laws.proofs.Replies.{Sound}
 
 -- what only looks at the stores is kept by all that owners do
