@@ -27,9 +27,10 @@ use Rattle.rss_machine.specs.declared.session.OwnerKind.TheVariants as kind
 use Rattle.rss_machine.specs.declared.session.Session.TheVariants as session
 use Rattle.rss_machine.specs.declared.step.Step.{Step}
 use Rattle.world_laws.proofs.Doings.{Resting, plans, past, fixed, cleared, Working, owes_nothing, is_past, enters_own, Leaving, waits, fixes_work, fixes_own, asks_register, stamps_register, begins_snapshot, begins_txn, fence_done, stub_done, ShardTurning, txn_heard, txn_woken, txn_passed, snap_heard, snap_woken, Doing, listens_one, fix_hears, fix_reached, register_hears, register_stores, register_reached, read_ends, write_ends, txn_ends, snap_ends, counts_one, cuts_one, is_closed, forgets_all, turns, stub_asks}
-use Rattle.world_laws.proofs.SessionWalk.{session_at}
+use Rattle.world_laws.proofs.SessionMoves.{session_at}
 use Rattle.world_laws.proofs.Replies.{Sound, sound_keeps, sound_start}
-use Rattle.world_laws.proofs.Stacked.{OwnerKeepsUnder, stacked, store_owner}
+use Rattle.world_laws.proofs.Stacked.{OwnerKeepsUnder, stacked}
+use Rattle.world_laws.proofs.StoreWalk.{store_owner}
 use Rattle.rss_tables.specs.Outs.{slot_replica}
 use Rattle.world_laws.proofs.Doings.{turned, listened}
 use Rattle.world_laws.proofs.Properly.{after-stays}

@@ -17,7 +17,7 @@ use Rattle.rss_machine.specs.State.{State, Owner, owner_at, no_owner}
 use Rattle.rss_machine.specs.declared.session.Session.TheVariants as session
 use Rattle.world_laws.proofs.Looks.{looks, some_is, none_is_not}
 use Rattle.world_laws.proofs.Sent.{RoundOut, sends_each}
-use Rattle.world_laws.proofs.SessionWalk.{session_at}
+use Rattle.world_laws.proofs.SessionMoves.{session_at}
 use Rattle.std.proofs.Common.{◌-◌, ◌⊎◌, inl, inr}
 use Rattle.std.specs.Prelude.{◌==◌, if◌then◌else◌}
 use Rattle.std.proofs.lemmas.Bool.{eqb-true}

@@ -31,10 +31,11 @@ use Rattle.world_laws.proofs.Looks.{looks, some_is, none_is_not}
 use Rattle.world_laws.proofs.OwnerWalk.{owner_walk}
 use Rattle.world_laws.proofs.Runs.{passes}
 use Rattle.world_laws.proofs.Sent.{IsTold, decision_outs, sends_each}
-use Rattle.world_laws.proofs.SessionWalk.{session_at, IsAgain}
+use Rattle.world_laws.proofs.SessionMoves.{session_at, IsAgain}
 use Rattle.world_laws.proofs.Runs.{run_keeps}
 use Rattle.world_laws.proofs.Replies.{Sound, sound_keeps, sound_start}
-use Rattle.world_laws.proofs.Stacked.{OwnerKeepsUnder, stacked, store_owner, sent_before}
+use Rattle.world_laws.proofs.Stacked.{OwnerKeepsUnder, stacked, sent_before}
+use Rattle.world_laws.proofs.StoreWalk.{store_owner}
 use Rattle.std.proofs.Common.{◌⊎◌, inl, inr}
 use Rattle.std.proofs.lemmas.Bool.{true≢false}
 use Rattle.std.proofs.lemmas.List.{get_or-set_same}

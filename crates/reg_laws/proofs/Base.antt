@@ -17,7 +17,7 @@ use Rattle.world_laws.proofs.OwnerWalk.{owner_walk}
 use Rattle.world_laws.proofs.Replies.{Sound, sound_start}
 use Rattle.world_laws.proofs.RequestsProper.{Fine, fine_keeps, fine_start}
 use Rattle.world_laws.proofs.Runs.{passes, run_keeps}
-use Rattle.world_laws.proofs.SessionOwner.{session_owner}
+use Rattle.world_laws.proofs.SessionWalk.{session_owner}
 use Rattle.world_laws.proofs.Stacked.{OwnerKeepsUnder, stacked, side_by_side, under_more}
 use Rattle.world_laws.proofs.StoresOwn.{Owned, owned_keeps, owned_start}
 use Rattle.reg_laws.proofs.Awaiting.{Awaiting, AtRest}

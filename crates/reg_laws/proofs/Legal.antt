@@ -19,7 +19,7 @@ use Rattle.rss_machine.specs.State.{State, start, owner_at}
 use Rattle.rss_machine.specs.declared.session.Session.TheVariants as session
 use Rattle.rss_machine.specs.declared.step.Step.{Step}
 use Rattle.world_laws.proofs.Looks.{some_is, none_is_not}
-use Rattle.world_laws.proofs.SessionWalk.{session_at}
+use Rattle.world_laws.proofs.SessionMoves.{session_at}
 use Rattle.std.proofs.Common.{◌⊎◌, inl, inr}
 use Rattle.std.specs.Prelude.{if◌then◌else◌}
 use Rattle.std.proofs.lemmas.Bool.{true≢false}

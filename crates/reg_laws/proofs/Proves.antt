@@ -45,7 +45,7 @@ use Rattle.world_laws.specs.Registers.{IsRegister}
 use Rattle.world_laws.proofs.Later.{later_keeps, later_same, le_same, le_trans, accept-all-rises}
 use Rattle.world_laws.proofs.StackRuns.{IsKept, kept_run}
 use Rattle.world_laws.proofs.Stacked.{under_more}
-use Rattle.world_laws.proofs.StoreWalk.{Serves}
+use Rattle.world_laws.proofs.StoreMoves.{Serves}
 use Rattle.reg_laws.specs.Files.{IsInOrder}
 use Rattle.reg_laws.specs.Told.{Stamped, asked_to_hold, asked_of, shown_stamp, HoldsAtLeast, Proves, RepliesProve}
 use Rattle.reg_laws.proofs.Base.{Known, KnownAt, sound_of, at_rest, known_keeps, known_ticks, known_start}

@@ -25,7 +25,7 @@ use Rattle.rss_machine.specs.Session.{Session}
 use Rattle.rss_machine.specs.State.{State, Owner, start, no_owner}
 use Rattle.rss_machine.specs.declared.step.Step.{Step}
 use Rattle.world_laws.proofs.Doings.{Changed, Heard, Resting, plans, past, fixed, cleared, Working, owes_nothing, is_past, enters_own, Leaving, waits, fixes_work, fixes_own, asks_register, stamps_register, begins_snapshot, begins_txn, fence_done, stub_done, ShardTurning, txn_heard, txn_woken, txn_passed, snap_heard, snap_woken, Doing, listens_one, fix_hears, fix_reached, register_hears, register_stores, register_reached, read_ends, write_ends, txn_ends, snap_ends, counts_one, cuts_one, is_closed, forgets_all, turns, stub_asks}
-use Rattle.world_laws.proofs.SessionWalk.{session_at}
+use Rattle.world_laws.proofs.SessionMoves.{session_at}
 use Rattle.world_laws.proofs.Replies.{Sound}
 use Rattle.world_laws.proofs.Stacked.{OwnerKeepsUnder, stacked}
 use Rattle.std.proofs.Common.{◌-◌, inl, inr}
@@ -45,7 +45,7 @@ use Rattle.world_laws.proofs.Later.{later_keeps, later_same, le_same}
 use Rattle.world_laws.proofs.Named.{WorksOn, SessionOn, owner_on}
 use Rattle.world_laws.proofs.Properly.{session_proper}
 use Rattle.world_laws.proofs.StackRuns.{IsKept, kept_run}
-use Rattle.world_laws.proofs.StoreWalk.{Serves}
+use Rattle.world_laws.proofs.StoreMoves.{Serves}
 use Rattle.reg_laws.specs.Files.{IsInOrder}
 use Rattle.reg_laws.specs.Told.{asked_to_hold, asked_of, shown_stamp, HoldsAtLeast, Proves}
 use Rattle.reg_laws.proofs.Awaits.{beginning_idle}

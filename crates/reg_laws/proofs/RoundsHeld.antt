@@ -29,7 +29,7 @@ use Rattle.rss_machine.specs.Session.{Session}
 use Rattle.rss_machine.specs.State.{State, Owner, no_owner}
 use Rattle.rss_machine.specs.declared.session.Session.TheVariants as session
 use Rattle.world_laws.proofs.Looks.{some_is, none_is_not}
-use Rattle.world_laws.proofs.SessionWalk.{session_at}
+use Rattle.world_laws.proofs.SessionMoves.{session_at}
 use Rattle.std.proofs.Common.{◌-◌, ◌⊎◌, inl, inr}
 use Rattle.std.specs.Prelude.{if◌then◌else◌}
 use Rattle.rss_tables.specs.Outs.{slot_replica}

@@ -33,7 +33,7 @@ use Rattle.rss_machine.specs.declared.session.Session.TheVariants as session
 use Rattle.world_laws.proofs.Doings.{Changed, Resting, plans, past, fixed, cleared, Working, owes_nothing, is_past, enters_own, Leaving, waits, fixes_work, fixes_own, asks_register, stamps_register, begins_snapshot, begins_txn, fence_done, stub_done, ShardTurning, txn_heard, txn_woken, txn_passed, snap_heard, snap_woken, Doing, listens_one, fix_hears, fix_reached, register_hears, register_stores, register_reached, read_ends, write_ends, txn_ends, snap_ends, counts_one, cuts_one, is_closed, forgets_all, turns, stub_asks}
 use Rattle.std.proofs.lemmas.Bool.{false≢true}
 use Rattle.world_laws.proofs.Sent.{SessionOut, RoundOut, to_shard, IsTold, decision_outs, leaving_outs, doing_outs, sends_each, SentAll, sent_meets, sent_asks, sent_answers}
-use Rattle.world_laws.proofs.SessionWalk.{session_at, IsAgain}
+use Rattle.world_laws.proofs.SessionMoves.{session_at, IsAgain}
 use Rattle.world_laws.proofs.Replies.{Sound}
 use Rattle.world_laws.proofs.Stacked.{OwnerKeepsUnder, sent_before}
 use Rattle.world_laws.proofs.Sent.{sent_none}
@@ -53,7 +53,7 @@ use Rattle.rss_tables.specs.ReplicaRow.{held_at, dep_cell, opening_cell, accept,
 use Rattle.rss_machine.specs.State.{service_index, cells_at, replicas_at, replicas_of_services, replicas_before, opening_replicas}
 use Rattle.world_laws.specs.Registers.{IsRegister}
 use Rattle.world_laws.proofs.Contexts.{at_place}
-use Rattle.world_laws.proofs.StoreWalk.{StoreKeeps}
+use Rattle.world_laws.proofs.StoreMoves.{StoreKeeps}
 use Rattle.reg_laws.specs.Files.{IsNext, next_number, AreNumbered, IsInOrder}
 use Rattle.reg_laws.proofs.AwaitsOf.{hears_replicas}
 use Rattle.reg_laws.proofs.Awaits.{beginning_idle}

@@ -39,7 +39,7 @@ use Rattle.world_laws.proofs.Doings.{Changed, Resting, plans, past, fixed, clear
 use Rattle.std.proofs.lemmas.Bool.{false≢true}
 use Rattle.world_laws.proofs.Looks.{some_is, none_is_not}
 use Rattle.world_laws.proofs.Sent.{SessionOut, to_shard, IsTold, decision_outs, leaving_outs, doing_outs, sent_weaker, sends_each, SentAll, sent_meets, sent_asks, sent_answers}
-use Rattle.world_laws.proofs.SessionWalk.{session_at, IsAgain}
+use Rattle.world_laws.proofs.SessionMoves.{session_at, IsAgain}
 use Rattle.world_laws.proofs.Replies.{Sound}
 use Rattle.world_laws.proofs.Stacked.{OwnerKeepsUnder, sent_before}
 use Rattle.world_laws.proofs.Sent.{sent_none}
@@ -58,7 +58,7 @@ use Rattle.rss_wire.specs.Messages.{answers}
 use Rattle.world_laws.specs.Own.{is_own_body, AreOwn}
 use Rattle.world_laws.specs.Registers.{NamesRegisters}
 use Rattle.world_laws.proofs.RequestsProper.{served_same}
-use Rattle.world_laws.proofs.SessionOwner.{same_sessions, grown_sessions}
+use Rattle.world_laws.proofs.SessionWalk.{same_sessions, grown_sessions}
 use Rattle.reg_laws.specs.Stored.{WasStored, StampsName}
 use Rattle.reg_laws.proofs.Awaiting.{IsFix, FixesOnly, OwnAwaited, set_each, set_there}
 use Rattle.reg_laws.proofs.Awaits.{nobody_sends, leaving_fixes, doing_fixes, beginning_idle}

@@ -40,7 +40,8 @@ use Rattle.world_laws.specs.Later.{stamp_in, Later}
 use Rattle.world_laws.proofs.Later.{later_keeps, later_same}
 use Rattle.world_laws.proofs.Replies.{place, old_message, new_message, exchange_there}
 use Rattle.world_laws.proofs.Runs.{steps_keep, run_split}
-use Rattle.world_laws.proofs.StoreWalk.{StoreKeeps, Serves, store_walk}
+use Rattle.world_laws.proofs.StoreMoves.{StoreKeeps, Serves}
+use Rattle.world_laws.proofs.StoreWalk.{store_walk}
 use Rattle.reg_laws.specs.Told.{asked_of, shown_stamp, Tells, RepliesTell}
 
 -- what is true of each reply of a replica, by the number of its exchange

@@ -23,7 +23,7 @@ use Rattle.rss_machine.specs.State.{State, Owner, start, owner_at, no_owner}
 use Rattle.rss_machine.specs.declared.step.Step.{Step}
 use Rattle.world_laws.proofs.Doings.{Changed, Doing}
 use Rattle.world_laws.proofs.Sent.{IsTold, decision_outs, leaving_outs, doing_outs, sends_each}
-use Rattle.world_laws.proofs.SessionWalk.{IsAgain}
+use Rattle.world_laws.proofs.SessionMoves.{IsAgain}
 use Rattle.world_laws.proofs.Replies.{Sound, sound_keeps}
 use Rattle.world_laws.proofs.Stacked.{OwnerKeepsUnder, sent_before}
 use Rattle.world_laws.proofs.Sent.{sent_none}

@@ -30,7 +30,7 @@ use Rattle.world_laws.proofs.Doings.{Changed, Resting, plans, past, fixed, clear
 use Rattle.std.proofs.lemmas.Bool.{false≢true}
 use Rattle.world_laws.proofs.Looks.{looks, some_is, none_is_not}
 use Rattle.world_laws.proofs.Sent.{SessionOut, RoundOut, to_shard, sends_each, SentAll, sent_asks}
-use Rattle.world_laws.proofs.SessionWalk.{session_at}
+use Rattle.world_laws.proofs.SessionMoves.{session_at}
 use Rattle.world_laws.proofs.Replies.{Sound, sound_keeps}
 use Rattle.std.proofs.Common.{◌⊎◌, inl, inr}
 use Rattle.std.proofs.lemmas.Bool.{true≢false}

@@ -50,7 +50,7 @@ use Rattle.world_laws.proofs.FileRegisters.{same_number}
 use Rattle.world_laws.proofs.Marked.{key_with, same_service_is}
 use Rattle.world_laws.proofs.Named.{RequestOn}
 use Rattle.world_laws.proofs.Replies.{place, old_message}
-use Rattle.world_laws.proofs.StoreWalk.{Serves}
+use Rattle.world_laws.proofs.StoreMoves.{Serves}
 use Rattle.reg_laws.specs.Stored.{WasStored, IsValid, DepIsValid}
 use Rattle.rss_machine.specs.Marks.{is_store}
 use Rattle.world_laws.specs.Own.{is_own_body}

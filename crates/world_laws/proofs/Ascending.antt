@@ -21,7 +21,8 @@ use Rattle.world_laws.specs.Ascending.{mark_at, Ascending}
 use Rattle.world_laws.proofs.Looks.{looks, get_or_set}
 use Rattle.world_laws.proofs.Runs.{passes, run_rest, run_none}
 use Rattle.world_laws.proofs.Marked.{none_at}
-use Rattle.world_laws.proofs.StoreWalk.{StoreKeeps, store_walk}
+use Rattle.world_laws.proofs.StoreMoves.{StoreKeeps}
+use Rattle.world_laws.proofs.StoreWalk.{store_walk}
 
 not_le_lt : (a b : Carstamp) → stamp_le a b ≡ false → stamp_lt b a ≡ true
 not_le_lt a b e = grind (arith, nat_tests)

@@ -9,7 +9,8 @@ use Rattle.rss_machine.specs.Refusal.{refusal}
 use Rattle.rss_machine.specs.Run.{run, run_from}
 use Rattle.rss_machine.specs.declared.step.Step.{Step}
 use Rattle.world_laws.proofs.Runs.{passes, run_rest, run_none}
-use Rattle.world_laws.proofs.StoreWalk.{StoreKeeps, store_walk}
+use Rattle.world_laws.proofs.StoreMoves.{StoreKeeps}
+use Rattle.world_laws.proofs.StoreWalk.{store_walk}
 
 -- the clock stands at this step, this moment and these moments
 record Stands (k a : ℕ) (ms : List ℕ) (s : State) : Type 0 where

@@ -49,8 +49,8 @@ use Rattle.rss_machine.specs.declared.session.Session.TheVariants as session
 use Rattle.rss_machine.specs.declared.state.OwnerFate.{OwnerFate}
 use Rattle.rss_machine.specs.declared.state.OwnerFate.TheVariants.{Ended}
 use Rattle.world_laws.specs.Contexts.{AllDeps}
-use Rattle.world_laws.proofs.SessionWalk.{session_at}
-use Rattle.world_laws.proofs.StoreWalk.{SameStores}
+use Rattle.world_laws.proofs.SessionMoves.{session_at}
+use Rattle.world_laws.proofs.StoreMoves.{SameStores}
 
 -- the stores stay, the owners become these, and what is true of each dependency that stood, and of
 -- these new ones, is true of each that stands

@@ -24,7 +24,8 @@ use Rattle.rss_machine.specs.declared.step.Step.{Step}
 use Rattle.world_laws.specs.Later.{stamp_in, Later}
 use Rattle.world_laws.proofs.Looks.{looks}
 use Rattle.world_laws.proofs.Runs.{passes, run_rest, run_none, run_split}
-use Rattle.world_laws.proofs.StoreWalk.{StoreKeeps, store_walk}
+use Rattle.world_laws.proofs.StoreMoves.{StoreKeeps}
+use Rattle.world_laws.proofs.StoreWalk.{store_walk}
 
 pub le_same : (a : Carstamp) → stamp_le a a ≡ true
 le_same a = grind (arith, nat_tests)

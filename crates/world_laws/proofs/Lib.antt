@@ -1,7 +1,7 @@
 pub mod Looks
 pub mod Runs
-pub mod StoreWalk
-pub mod SessionWalk
+pub mod StoreMoves
+pub mod SessionMoves
 pub mod Clock
 pub mod Readings
 pub mod Later
@@ -23,10 +23,11 @@ pub mod OwnerWorks
 pub mod OwnerActs
 pub mod OwnerHears
 pub mod OwnerWalk
+pub mod StoreWalk
+pub mod SessionWalk
 pub mod Sent
 pub mod Named
 pub mod NamedRuns
 pub mod Stacked
 pub mod FileRegisters
-pub mod SessionOwner
 pub mod StackRuns

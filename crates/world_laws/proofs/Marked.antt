@@ -46,7 +46,8 @@ use Rattle.world_laws.proofs.Later.{later_from}
 use Rattle.world_laws.proofs.Notes.{NoKey, OnlyKey, AreNoted, IsNotedAt, Notes, notes_long, notes_none, notes_serve}
 use Rattle.world_laws.proofs.RequestsProper.{proper_run}
 use Rattle.world_laws.proofs.Replies.{meets_envelope, meets_body}
-use Rattle.world_laws.proofs.StoreWalk.{StoreKeeps, SameStores, Serves, store_walk}
+use Rattle.world_laws.proofs.StoreMoves.{StoreKeeps, SameStores, Serves}
+use Rattle.world_laws.proofs.StoreWalk.{store_walk}
 
 -- a list of some is not empty
 cons_not_nil : {X : Type 0} (x : X) (xs : List X) → x ∷ xs ≡ [] → ⊥

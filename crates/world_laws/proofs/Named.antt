@@ -42,7 +42,7 @@ use Rattle.world_laws.proofs.Doings.{Resting, plans, past, fixed, cleared, Worki
 use Rattle.std.proofs.lemmas.Bool.{false≢true}
 use Rattle.world_laws.proofs.Looks.{some_is, none_is_not}
 use Rattle.world_laws.proofs.Sent.{SessionOut, RoundOut, to_shard, SentAll}
-use Rattle.world_laws.proofs.SessionWalk.{session_at}
+use Rattle.world_laws.proofs.SessionMoves.{session_at}
 
 -- the registers of an operation, of what an owner does, and of what it has under way
 abbrev pub op_registers : Op → List Key

@@ -33,11 +33,12 @@ use Rattle.world_laws.proofs.OwnerMoves.{OwnerKeeps}
 use Rattle.world_laws.proofs.OwnerWalk.{owner_walk}
 use Rattle.world_laws.proofs.Runs.{passes}
 use Rattle.world_laws.proofs.Sent.{SessionOut, IsTold, decision_outs, leaving_outs, doing_outs, sends_each, SentAll, sent_meets, sent_asks, sent_answers}
-use Rattle.world_laws.proofs.SessionWalk.{IsAgain}
+use Rattle.world_laws.proofs.SessionMoves.{IsAgain}
 use Rattle.world_laws.proofs.Contexts.{set_copies}
 use Rattle.world_laws.proofs.Runs.{run_keeps}
 use Rattle.world_laws.proofs.Replies.{Sound, sound_keeps, sound_start}
-use Rattle.world_laws.proofs.Stacked.{OwnerKeepsUnder, stacked, store_owner, sent_before}
+use Rattle.world_laws.proofs.Stacked.{OwnerKeepsUnder, stacked, sent_before}
+use Rattle.world_laws.proofs.StoreWalk.{store_owner}
 use Rattle.world_laws.proofs.Sent.{sent_none}
 use Rattle.world_laws.proofs.Named.{SessionOn}
 use Rattle.world_laws.proofs.Named.{Kept, OwnerOn, RequestOn, Named, owner_on, out_on, shard_on, resting_on, working_on, leaving_on, doing_on, new_on, op_registers}

@@ -49,7 +49,7 @@ use Rattle.rss_machine.specs.declared.state.OwnerFate.TheVariants.{Ended}
 use Rattle.world_laws.specs.Contexts.{StageHolds, ChunkHolds, PipeHolds, mark_deps}
 use Rattle.world_laws.proofs.Contexts.{joined_hold, stage_holds, stages_hold, copy_holds, pipe_holds, exit_holds, put_pipe, taken_pipe}
 use Rattle.world_laws.proofs.Doings.{turned, calls, fences, ShardTurning, txn_woken, txn_passed, snap_woken, read_ends, write_ends, txn_ends, snap_ends, forgets_all, turns}
-use Rattle.world_laws.proofs.SessionWalk.{session_at}
+use Rattle.world_laws.proofs.SessionMoves.{session_at}
 use Rattle.world_laws.proofs.OwnerMoves.{OwnerMoves, same_stores, stage_kept, kept_changed, ends_changed, begins_changed, at_own, busy_there, there_own, sends_kept}
 use Rattle.world_laws.proofs.OwnerWorks.{stage, moves, w_closes, w_exits, w_goes_through, w_waited}
 

@@ -22,7 +22,7 @@ use Rattle.rss_wire.specs.declared.messages.Reply.TheVariants as reply
 use Rattle.rss_wire.specs.Messages.{message_at, no_message}
 use Rattle.rss_wire.specs.declared.message.Message.{Message}
 use Rattle.world_laws.proofs.Looks.{looks, some_is_not, get_or_past}
-use Rattle.world_laws.proofs.StoreWalk.{IsSent}
+use Rattle.world_laws.proofs.StoreMoves.{IsSent}
 use Rattle.rss_tables.specs.declared.register_session.RegEnd.{RegEnd}
 use Rattle.rss_tables.specs.Lines.{line_at, tells_decision}
 use Rattle.rss_tables.specs.Losses.{losses_of, reaches_tries, is_quorum_lost}
@@ -49,7 +49,7 @@ use Rattle.rss_machine.specs.declared.state.OwnerFate.TheVariants.{Dropped}
 use Rattle.rss_machine.specs.declared.turn.Enabling.TheVariants.{Never}
 use Rattle.world_laws.proofs.Contexts.{copy_holds}
 use Rattle.world_laws.proofs.Doings.{Heard, listened, heard_to, reached_to, plans, txn_heard, snap_heard, listens_one, fix_hears, fix_reached, register_hears, register_stores, register_reached, counts_one, cuts_one, stub_asks}
-use Rattle.world_laws.proofs.SessionWalk.{session_at, IsLost}
+use Rattle.world_laws.proofs.SessionMoves.{session_at, IsLost}
 use Rattle.world_laws.proofs.OwnerMoves.{OwnerMoves, own_changed, kept_changed, at_own, busy_there, fixing_there, there_own, hears_turn, hears_reach, reach_turn, starts_settling, sends_long, done_phase}
 use Rattle.world_laws.proofs.OwnerWorks.{moves, w_dies, w_loses_stub, w_goes_through, w_waited, w_fix_ends}
 use Rattle.world_laws.proofs.OwnerActs.{w_register_ends, w_txn_turns, w_snap_turns, txn_there, snap_there, w_acts}

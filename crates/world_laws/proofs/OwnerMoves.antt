@@ -20,7 +20,7 @@ use Rattle.rss_wire.specs.declared.messages.Request.{Request}
 use Rattle.rss_wire.specs.declared.messages.Reply.TheVariants as reply
 use Rattle.rss_wire.specs.Messages.{message_at}
 use Rattle.world_laws.proofs.Looks.{looks, get_or_past}
-use Rattle.world_laws.proofs.StoreWalk.{SameStores, Serves}
+use Rattle.world_laws.proofs.StoreMoves.{SameStores, Serves}
 use Rattle.rss_tables.specs.declared.register_session.RegEnd.{RegEnd}
 use Rattle.rss_tables.specs.Lines.{tells_decision}
 use Rattle.rss_tables.specs.Outs.{Out}
@@ -46,7 +46,7 @@ use Rattle.world_laws.specs.Contexts.{AllDeps, StageHolds, CopyHolds, PipeHolds}
 use Rattle.world_laws.proofs.Contexts.{stage_holds, copy_holds}
 use Rattle.world_laws.proofs.Doings.{Changed, Heard, listened, heard_to, reached_to, Beginning, Resting, Working, Leaving, Doing}
 use Rattle.world_laws.proofs.Looks.{none_is_not, some_is}
-use Rattle.world_laws.proofs.SessionWalk.{session_at, IsAgain}
+use Rattle.world_laws.proofs.SessionMoves.{session_at, IsAgain}
 
 -- what has to be shown of a predicate on states, and of one on states with an owner at rest: that it is kept
 -- by all that owners do, and where a message meets a fate

@@ -17,7 +17,7 @@ use Rattle.rss_wire.specs.Messages.{message_at, no_message, is_sent}
 use Rattle.rss_wire.specs.declared.message.Message.{Message}
 use Rattle.rss_machine.specs.Refusal.{kind_refusal}
 use Rattle.world_laws.proofs.Looks.{looks}
-use Rattle.world_laws.proofs.StoreWalk.{IsSent, by_sent}
+use Rattle.world_laws.proofs.StoreMoves.{IsSent, by_sent}
 use Rattle.rss_machine.specs.Effect.{request_comes, comes, effect}
 use Rattle.rss_machine.specs.Moves.{marks_message}
 use Rattle.rss_machine.specs.Slots.{slot_in}

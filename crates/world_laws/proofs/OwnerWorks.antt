@@ -49,7 +49,7 @@ use Rattle.rss_machine.specs.declared.state.OwnerFate.TheVariants.{Ended, CutOff
 use Rattle.world_laws.specs.Contexts.{AllDeps, StageHolds, PipeHolds}
 use Rattle.world_laws.proofs.Contexts.{fenced_hold, stage_holds, stages_hold, copy_holds, pipe_holds}
 use Rattle.world_laws.proofs.Doings.{Changed, fence_ended, turned, launched, fix_session, past, fixed, cleared, owes_nothing, is_past, enters_own, waits, fixes_work, fixes_own, asks_register, stamps_register, begins_snapshot, begins_txn, fence_done, stub_done, is_closed}
-use Rattle.world_laws.proofs.SessionWalk.{session_at}
+use Rattle.world_laws.proofs.SessionMoves.{session_at}
 use Rattle.world_laws.proofs.OwnerMoves.{OwnerMoves, stage_changed, pipe_changed, stage_kept, own_changed, kept_changed, ends_changed, begins_changed, at_own, waiting_there, fixing_there, there_own, IsReady, ready, Lies}
 
 module _ (c : Config) (at : Reading) (P : State → Type 0) (R : State → ℕ → Type 0) (k : OwnerMoves c at P R) where

@@ -32,7 +32,7 @@ use Rattle.rss_machine.specs.Moves.{session_without}
 use Rattle.rss_machine.specs.Session.{Session}
 use Rattle.rss_machine.specs.State.{State}
 use Rattle.rss_machine.specs.declared.session.Session.TheVariants as session
-use Rattle.world_laws.proofs.SessionWalk.{session_at, Turning, idles, loses_one, fixes_first, asks_register, stamps_register, fix_hears, register_hears, register_stores, snapshot_begins, txn_begins, txn_heard, txn_woken, txn_passed, snap_heard, snap_woken, stub_asks, stub_tells}
+use Rattle.world_laws.proofs.SessionMoves.{session_at, Turning, idles, loses_one, fixes_first, asks_register, stamps_register, fix_hears, register_hears, register_stores, snapshot_begins, txn_begins, txn_heard, txn_woken, txn_passed, snap_heard, snap_woken, stub_asks, stub_tells}
 
 -- a service is itself
 same-self : (id : ServiceId) → same_service id id ≡ true

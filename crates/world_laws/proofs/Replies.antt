@@ -22,7 +22,8 @@ use Rattle.rss_machine.specs.declared.step.Step.{Step}
 use Rattle.world_laws.specs.Exchanges.{is_request, Fits, IsSound, Exchanges}
 use Rattle.world_laws.proofs.Looks.{looks}
 use Rattle.world_laws.proofs.Runs.{passes, run_rest, run_none}
-use Rattle.world_laws.proofs.StoreWalk.{StoreKeeps, store_walk}
+use Rattle.world_laws.proofs.StoreMoves.{StoreKeeps}
+use Rattle.world_laws.proofs.StoreWalk.{store_walk}
 
 -- bodies that are the same say the same
 request_same : (q p : Request) → body.Request q ≡ body.Request p → q ≡ p

@@ -23,7 +23,8 @@ use Rattle.world_laws.proofs.Looks.{looks, get_or_append, get_or_one, get_or_pas
 use Rattle.world_laws.proofs.Runs.{passes, run_rest, run_none}
 use Rattle.world_laws.proofs.Replies.{Sound, sound_keeps, sound_start, meets_envelope, meets_body}
 use Rattle.world_laws.proofs.Properly.{outs_proper, session_proper, turning-proper}
-use Rattle.world_laws.proofs.SessionWalk.{SessionKeeps, TurnsTo, IsAgain, session_at, session_walk}
+use Rattle.world_laws.proofs.SessionMoves.{SessionKeeps, TurnsTo, IsAgain, session_at}
+use Rattle.world_laws.proofs.SessionWalk.{session_walk}
 
 -- a message is proper
 abbrev is_fine : Message → Type 0

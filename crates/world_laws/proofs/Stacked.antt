@@ -1,5 +1,5 @@
 -- Predicates that stand on others: what is kept where another one is known.
-use Rattle.std.proofs.Common.{◌≡◌, ℕ, ◌<◌, false, List, [], ◌∷◌, ◌++◌, length, Option, Some, refl, ◌∙◌, subst}
+use Rattle.std.proofs.Common.{◌≡◌, ℕ, ◌<◌, false, List, [], ◌∷◌, ◌++◌, length, Option, Some, ◌∙◌, subst}
 use Rattle.std.proofs.Math.ListN.{set}
 use Rattle.truetime.specs.Reading.{Reading}
 use Rattle.rss_names.specs.declared.attempt.Attempt.{Attempt}
@@ -14,7 +14,7 @@ use Rattle.rss_wire.specs.declared.messages.Outcome.{Outcome}
 use Rattle.rss_wire.specs.declared.messages.Request.{Request}
 use Rattle.rss_wire.specs.declared.messages.Reply.TheVariants as reply
 use Rattle.rss_wire.specs.Messages.{message_at}
-use Rattle.world_laws.proofs.StoreWalk.{Serves}
+use Rattle.world_laws.proofs.StoreMoves.{Serves}
 use Rattle.rss_tables.specs.Lines.{tells_decision}
 use Rattle.rss_tables.specs.Outs.{Out}
 use Rattle.rss_machine.specs.Moves.{marks_message, sends_one, sends, serves_shard, serves_replica, notes_served, plans_stub, listens}
@@ -25,38 +25,9 @@ use Rattle.std.proofs.Common.{sym}
 use Rattle.rss_tables.specs.Works.{no_works}
 use Rattle.rss_machine.specs.State.{opening_owner}
 use Rattle.world_laws.proofs.Doings.{Changed, Heard, Beginning, Resting, Working, Leaving, Doing}
-use Rattle.world_laws.proofs.SessionWalk.{session_at, IsAgain}
-use Rattle.world_laws.proofs.StoreWalk.{StoreKeeps}
+use Rattle.world_laws.proofs.SessionMoves.{session_at, IsAgain}
 use Rattle.world_laws.proofs.OwnerMoves.{OwnerKeeps}
 use Rattle.world_laws.proofs.Replies.{Sound}
-
--- what only looks at the stores is kept by all that owners do
-module _ (c : Config) (at : Reading) (P : State → Type 0) (k : StoreKeeps P) where
-  all_sent : (o : ℕ) (outs : List Out) (s : State) → P s → P (sends s o outs)
-  all_sent o [] s p = p
-  all_sent o (out ∷ outs) s p = all_sent o outs (sends_one s o out) (k.sends s o out p)
-
-  pub store_owner : OwnerKeeps c at P (λ s o. P s)
-  store_owner = record {
-    shards = λ s m shard r d p. k.shards s m shard at.latest r d p;
-    replicas = k.replicas;
-    moves = record {
-      fates = k.fates;
-      again = λ s o exchange slot target r d p. k.sends s o (record { slot = Some slot; target = target; request = r }) p;
-      stages = λ s t d p. k.others s t d.stores p;
-      dies = λ s t n u d p. k.others s t d.stores p;
-      begins = λ s t w b d p. k.others s t d.stores p;
-      rests = λ s t o w i b d p. k.others s t d.stores p;
-      settles = λ s o slot a shards outcome i e d p.
-          let u = sends (listens s o slot) o (tells_decision a outcome shards) in
-          k.others u (plans_stub u o) (record { steps = refl; moment = refl; moments = refl; net = refl; shards = refl; replicas = refl; marks = refl })
-          (all_sent o (tells_decision a outcome shards) (listens s o slot) (k.others s (listens s o slot) (record { steps = refl; moment = refl; moments = refl; net = refl; shards = refl; replicas = refl; marks = refl }) p));
-      settled = λ s o p. p;
-      works = λ s t o w i b d p. k.others s t d.stores p;
-      leaves = λ s t o w outs i b d p. all_sent o outs t (k.others s t d.stores p);
-      does = λ s t o w outs new b d p. all_sent o outs t (k.others s t d.stores p);
-    };
-  }
 
 -- what has to be shown of a predicate, where others are known
 pub record OwnerKeepsUnder (c : Config) (at : Reading) (S : State → Type 0) (T : State → ℕ → Type 0) (P : State → Type 0) (R : State → ℕ → Type 0) : Type 1 where

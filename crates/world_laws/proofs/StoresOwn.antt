@@ -38,7 +38,8 @@ use Rattle.world_laws.specs.Own.{is_own, is_own_body, AreOwn}
 use Rattle.world_laws.proofs.Runs.{passes, run_rest, run_none}
 use Rattle.world_laws.proofs.Replies.{Sound, sound_keeps, sound_start, meets_envelope, meets_body}
 use Rattle.world_laws.proofs.RequestsProper.{either, sends_same, served_same}
-use Rattle.world_laws.proofs.SessionWalk.{SessionKeeps, TurnsTo, Turning, IsAgain, session_at, session_walk, idles, loses_one, fixes_first, asks_register, stamps_register, fix_hears, register_hears, register_stores, snapshot_begins, txn_begins, txn_heard, txn_woken, txn_passed, snap_heard, snap_woken, stub_asks, stub_tells}
+use Rattle.world_laws.proofs.SessionMoves.{SessionKeeps, TurnsTo, Turning, IsAgain, session_at, idles, loses_one, fixes_first, asks_register, stamps_register, fix_hears, register_hears, register_stores, snapshot_begins, txn_begins, txn_heard, txn_woken, txn_passed, snap_heard, snap_woken, stub_asks, stub_tells}
+use Rattle.world_laws.proofs.SessionWalk.{session_walk}
 use Rattle.world_laws.proofs.ShardRequests.{all_outs, lines-fine, snap-lines-fine, decision-fine, txn-fine, passed-fine, snap-fine, woken-fine}
 
 -- a session is its owner's, and the stamp that it stores is
