@@ -1,5 +1,5 @@
 -- What an owner has under way is of what it does, in every run.
-use Rattle.std.proofs.Common.{◌≡◌, ℕ, zero, suc, List, [], ◌∷◌, ◌++◌, get_or, Some, refl, ap, sym, ◌∙◌, subst}
+use Rattle.std.proofs.Common.{Bool, true, false, if◌then◌else◌, ◌≡◌, ℕ, zero, suc, List, [], ◌∷◌, ◌++◌, get_or, Some, refl, ap, sym, ◌∙◌, subst}
 use Rattle.std.proofs.Math.ListN.{set}
 use Rattle.std.proofs.lemmas.Bool.{cond_both}
 use Rattle.truetime.specs.Reading.{Reading}
@@ -16,7 +16,10 @@ use Rattle.rss_wire.specs.declared.messages.Outcome.{Outcome}
 use Rattle.rss_wire.specs.declared.messages.Reply.{Reply}
 use Rattle.rss_tables.specs.Lines.{tells_decision}
 use Rattle.rss_tables.specs.Outs.{Out}
-use Rattle.rss_tables.specs.RegisterSession.{RegSession, session_after}
+use Rattle.rss_tables.specs.RegisterSession.{RegSession, session_after, reached, reply_cell}
+use Rattle.rss_tables.specs.Round.{hears, is_reached}
+use Rattle.rss_tables.specs.declared.register_session.RegPhase.{RegPhase}
+use Rattle.rss_tables.specs.declared.register_session.RegPhase.TheVariants as phase
 use Rattle.rss_tables.specs.declared.register_session.RegWork.{RegWork}
 use Rattle.rss_tables.specs.declared.register_session.RegWork.TheVariants as work
 use Rattle.rss_machine.specs.Moves.{sends_one, sends, session_without, listens, plans_stub}
@@ -39,7 +42,7 @@ use Rattle.rss_tables.specs.declared.fences.FenceWork.TheVariants.{Fix}
 use Rattle.rss_machine.specs.Session.{service_of}
 use Rattle.world_laws.proofs.StackRuns.{IsKept, kept_run}
 use Rattle.world_laws.proofs.Stacked.{under_more}
-use Rattle.reg_laws.specs.Agree.{WorkAgrees, CallAgrees, FixAgrees, Agrees, AllAgree}
+use Rattle.reg_laws.specs.Agree.{WorkAgrees, CallAgrees, FixPhase, FixAgrees, Agrees, AllAgree}
 use Rattle.reg_laws.proofs.Awaiting.{Awaiting, AtRest, IsFree, set_each, grow_each}
 use Rattle.reg_laws.proofs.Awaits.{beginning_idle, awaited_under, awaited_start}
 
@@ -53,6 +56,7 @@ same_agrees v w (session.Fixing r) a b d h = record {
   stores = h.stores ∙ ap (λ (deps : List Dep). work.Fix (deps_of r.service deps)) (sym d);
   first = λ id x rest e. h.first id x rest (sym b ∙ e);
   own = λ x e f. h.own x (sym b ∙ e) (sym a ∙ f);
+  in_phase = h.in_phase;
 }
 same_agrees v w (session.Register r) a b d h = record { of_kind = subst (WorkAgrees r.work) (sym a) h.of_kind; done = b ∙ h.done; settled = d ∙ h.settled }
 same_agrees v w (session.Transaction t) a b d h = record { reads = h.reads; guard = h.guard; writes = h.writes; of_kind = a ∙ h.of_kind }
@@ -63,15 +67,16 @@ same_agrees v w (session.Settling attempt shards) a b d h = a ∙ h
 same_call : (v w : Owner) (f g : RegSession) → g.work ≡ f.work → w.kind ≡ v.kind → w.works.left ≡ v.works.left → w.works.copy.deps ≡ v.works.copy.deps → CallAgrees v f → CallAgrees w g
 same_call v w f g e a b d h = record { of_kind = subst (λ (x : RegWork). WorkAgrees x w.kind) (sym e) (subst (WorkAgrees f.work) (sym a) h.of_kind); done = b ∙ h.done; settled = d ∙ h.settled }
 
-same_fix : (v w : Owner) (f g : RegSession) → g.work ≡ f.work → g.service ≡ f.service → w.kind ≡ v.kind → w.works.left ≡ v.works.left → w.works.copy.deps ≡ v.works.copy.deps → FixAgrees v f → FixAgrees w g
-same_fix v w f g e i a b d h = record {
+same_fix : (v w : Owner) (f g : RegSession) → g.work ≡ f.work → g.service ≡ f.service → FixPhase g.phase → w.kind ≡ v.kind → w.works.left ≡ v.works.left → w.works.copy.deps ≡ v.works.copy.deps → FixAgrees v f → FixAgrees w g
+same_fix v w f g e i p a b d h = record {
   stores = e ∙ (h.stores ∙ (ap (λ (deps : List Dep). work.Fix (deps_of f.service deps)) (sym d) ∙ ap (λ (id : ServiceId). work.Fix (deps_of id w.works.copy.deps)) (sym i)));
   first = λ id x rest k. i ∙ h.first id x rest (sym b ∙ k);
   own = λ x k l. i ∙ h.own x (sym b ∙ k) (sym a ∙ l);
+  in_phase = p;
 }
 
 without_agrees : (v w : Owner) (x : Session) (id : ServiceId) (replica : ℕ) → w.kind ≡ v.kind → w.works.left ≡ v.works.left → w.works.copy.deps ≡ v.works.copy.deps → Agrees v x → Agrees w (session_without x (Replica id replica))
-without_agrees v w (session.Fixing r) id replica a b d h = cond_both (same_service r.service id) _ r (FixAgrees w) (λ t. same_fix v w r _ refl refl a b d h) (λ t. same_fix v w r r refl refl a b d h)
+without_agrees v w (session.Fixing r) id replica a b d h = cond_both (same_service r.service id) _ r (FixAgrees w) (λ t. same_fix v w r _ refl refl h.in_phase a b d h) (λ t. same_fix v w r r refl refl h.in_phase a b d h)
 without_agrees v w (session.Register r) id replica a b d h = cond_both (same_service r.service id) _ r (CallAgrees w) (λ t. same_call v w r _ refl a b d h) (λ t. same_call v w r r refl a b d h)
 without_agrees v w session.Idle id replica a b d h = tt
 without_agrees v w (session.Transaction t) id replica a b d h = same_agrees v w (session.Transaction t) a b d h
@@ -104,11 +109,13 @@ leaving_agrees c at s o _ _ (fixes_work id rest l) g h = record {
   stores = refl;
   first = λ other x others e. first_same id other Fix x rest others (sym l ∙ e);
   own = λ x e f. absurd (nil_not_cons id Fix rest (sym e ∙ l));
+  in_phase = tt;
 }
 leaving_agrees c at s o _ _ (fixes_own x dep deps l e d) g h = record {
   stores = refl;
   first = λ other y others k. absurd (nil_not_cons other y others (sym l ∙ k));
   own = λ y k f. ap service_of (calling_same x y (sym e ∙ f));
+  in_phase = tt;
 }
 leaving_agrees c at s o _ _ (asks_register key l e d) g h = record { of_kind = e; done = l; settled = d }
 leaving_agrees c at s o _ _ (stamps_register key value l e d) g h = record { of_kind = e; done = l; settled = d }
@@ -124,8 +131,26 @@ turning_agrees s o _ _ (txn_passed t e) h = let k = subst (Agrees (owner_at s o)
 turning_agrees s o _ _ (snap_heard t l r e) h = let k = subst (Agrees (owner_at s o)) e h in record { keys = k.keys; of_kind = k.of_kind }
 turning_agrees s o _ _ (snap_woken t l e) h = let k = subst (Agrees (owner_at s o)) e h in record { keys = k.keys; of_kind = k.of_kind }
 
+-- a round of dependencies stays in its phase, or is done
+after_phase : (f : RegSession) (from : ℕ) (r : Reply) → FixPhase f.phase → FixPhase (session_after f from r).phase
+after_phase f from r h = by_reach (is_reached (hears f.round from (reply_cell r))) f.phase refl h
+  where
+    g : RegSession
+    g = record f { round = hears f.round from (reply_cell r) }
+
+    by_reach : (t : Bool) (p : RegPhase) → f.phase ≡ p → FixPhase p → FixPhase (if t then reached g p else g).phase
+    by_reach false p e k = h
+    by_reach true phase.Fixing e k = tt
+    by_reach true (phase.Done end) e k = h
+    by_reach true phase.Asking e k = absurd k
+    by_reach true phase.Stamping e k = absurd k
+    by_reach true (phase.Storing stamp) e k = absurd k
+
 fix_after_agrees : (s : State) (o : ℕ) (f : RegSession) (from : ℕ) (r : Reply) (w : Owner) → session_at s o ≡ session.Fixing f → w.kind ≡ (owner_at s o).kind → w.works.left ≡ (owner_at s o).works.left → w.works.copy.deps ≡ (owner_at s o).works.copy.deps → Agreed (owner_at s o) → FixAgrees w (session_after f from r)
-fix_after_agrees s o f from r w x a b d h = let k = after-stays f from r in same_fix (owner_at s o) w f (session_after f from r) k.0 k.1 a b d (subst (Agrees (owner_at s o)) x h)
+fix_after_agrees s o f from r w x a b d h =
+    let k = after-stays f from r in
+    let g : FixAgrees (owner_at s o) f = subst (Agrees (owner_at s o)) x h in
+    same_fix (owner_at s o) w f (session_after f from r) k.0 k.1 (after_phase f from r g.in_phase) a b d g
 
 call_after_agrees : (s : State) (o : ℕ) (f : RegSession) (from : ℕ) (r : Reply) (w : Owner) → session_at s o ≡ session.Register f → w.kind ≡ (owner_at s o).kind → w.works.left ≡ (owner_at s o).works.left → w.works.copy.deps ≡ (owner_at s o).works.copy.deps → Agreed (owner_at s o) → CallAgrees w (session_after f from r)
 call_after_agrees s o f from r w x a b d h = let k = after-stays f from r in same_call (owner_at s o) w f (session_after f from r) k.0 a b d (subst (Agrees (owner_at s o)) x h)

@@ -20,3 +20,4 @@ pub mod OwnStamps
 pub mod Legal
 pub mod Seen
 pub mod Agree
+pub mod Settles

@@ -10,6 +10,9 @@ use Rattle.rss_model.specs.declared.op.Op.{Op}
 use Rattle.rss_model.specs.declared.op.Op.TheVariants as op
 use Rattle.rss_tables.specs.RegisterSession.{RegSession}
 use Rattle.rss_tables.specs.declared.fences.FenceWork.{FenceWork}
+use Rattle.rss_tables.specs.declared.register_session.RegEnd.TheVariants as ends
+use Rattle.rss_tables.specs.declared.register_session.RegPhase.{RegPhase}
+use Rattle.rss_tables.specs.declared.register_session.RegPhase.TheVariants as phase
 use Rattle.rss_tables.specs.declared.register_session.RegWork.{RegWork}
 use Rattle.rss_tables.specs.declared.register_session.RegWork.TheVariants as work
 use Rattle.rss_machine.specs.Session.{Session, service_of}
@@ -30,12 +33,23 @@ pub record CallAgrees (w : Owner) (r : RegSession) : Type 0 where
   pub done : w.works.left ≡ []
   pub settled : w.works.copy.deps ≡ []
 
+-- the phases of a round of dependencies
+abbrev pub FixPhase : RegPhase → Type 0
+FixPhase phase.Fixing = ⊤
+FixPhase (phase.Done ends.Fixed) = ⊤
+FixPhase (phase.Done (ends.Read cell dep)) = ⊥
+FixPhase (phase.Done (ends.Written stamp)) = ⊥
+FixPhase phase.Asking = ⊥
+FixPhase phase.Stamping = ⊥
+FixPhase (phase.Storing stamp) = ⊥
+
 -- a round of dependencies: it stores those of the copy on the registers of a service, which is that of the
 -- first of the owner's works, or the call's own where its works are done
 pub record FixAgrees (w : Owner) (r : RegSession) : Type 0 where
   pub stores : r.work ≡ work.Fix (deps_of r.service w.works.copy.deps)
   pub first : (id : ServiceId) (x : FenceWork) (rest : List (ServiceId × FenceWork)) → w.works.left ≡ (id, x) ∷ rest → r.service ≡ id
   pub own : (x : Op) → w.works.left ≡ [] → w.kind ≡ kind.Calling x → r.service ≡ service_of x
+  pub in_phase : FixPhase r.phase
 
 -- a transaction's session, and a snapshot's
 pub record TxnAgrees (w : Owner) : Type 0 where
