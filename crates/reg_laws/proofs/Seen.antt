@@ -38,7 +38,7 @@ come_by c key z (step ∷ steps) more w u e h f = by_held (is_held (replicas_at 
     by_held true g ih = let n = first_one c w step (steps ++ more) key z g in omega (arith, n)
     by_held false g ih = let n = first_more c w step (steps ++ more) key z g in let k = ih g in omega (arith, n, k)
 
-seen_one : (c : Config) (steps more : List Step) (u s : State) (key : Key) (stamp : Carstamp) → IsInOrder c → run c steps ≡ Some u → run c (steps ++ more) ≡ Some s → is_held (replicas_at u key.service) key stamp ≡ true → SeenFromOne c (steps ++ more) u s key stamp
+pub seen_one : (c : Config) (steps more : List Step) (u s : State) (key : Key) (stamp : Carstamp) → IsInOrder c → run c steps ≡ Some u → run c (steps ++ more) ≡ Some s → is_held (replicas_at u key.service) key stamp ≡ true → SeenFromOne c (steps ++ more) u s key stamp
 unfolding run
 seen_one c steps more u s key stamp n e f h = record {
   come = by_opening (stamp_le stamp opening_stamp) refl;

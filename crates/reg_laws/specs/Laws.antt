@@ -9,7 +9,7 @@ use Rattle.reg_laws.specs.Stored.{StampsName, HoldsStored}
 use Rattle.reg_laws.specs.Files.{IsInOrder}
 use Rattle.reg_laws.specs.Told.{RepliesProve, RepliesTell}
 use Rattle.reg_laws.specs.Rounds.{EndsHeld, RoundsSee, SeesSteps}
-use Rattle.reg_laws.specs.Line.{ReadsLegal, PlacesInside, SeenFrom}
+use Rattle.reg_laws.specs.Line.{ReadsLegal, PlacesInside, SeenFrom, FixesSettled}
 use Rattle.reg_laws.specs.Agree.{AllAgree}
 use Rattle.reg_laws.specs.Awaited.{CurrentsAwaited, RepliesAreOwn}
 
@@ -67,3 +67,8 @@ EndsAreSeen =
 -- what owners have under way is of what they do
 abbrev pub SessionsAgree : Type 0
 SessionsAgree = (c : Config) (steps : List Step) (s : State) → run c steps ≡ Some s → AllAgree s
+
+-- a round of dependencies that is done has settled them
+abbrev pub FixesSettle : Type 0
+FixesSettle =
+    (c : Config) (steps more : List Step) (u s : State) → IsInOrder c → run c steps ≡ Some u → run c (steps ++ more) ≡ Some s → FixesSettled c (steps ++ more) u s

@@ -1,5 +1,5 @@
 -- The line of a register: its placed calls in the order of their keys.
-use Rattle.std.specs.Prelude.{◌≡◌, ℕ, ◌<◌, ◌≤◌, ◌⊎◌, true, false, List, Some, None, Option}
+use Rattle.std.specs.Prelude.{◌≡◌, ℕ, ◌<◌, ◌≤◌, ◌⊎◌, true, false, All, List, Some, None, Option}
 use Rattle.rss_names.specs.declared.service.Key.{Key}
 use Rattle.carstamps.specs.declared.carstamp.Carstamp.{Carstamp}
 use Rattle.carstamps.specs.Stamp.{stamp_le, stamp_lt}
@@ -7,6 +7,7 @@ use Rattle.pipeline_lang.specs.declared.config.Config.{Config}
 use Rattle.rss_machine.specs.Times.{step_of_stamp}
 use Rattle.rss_machine.specs.declared.step.Step.{Step}
 use Rattle.causal_context.specs.declared.dep.Dep.{Dep}
+use Rattle.causal_context.specs.Deps.{deps_of}
 use Rattle.rss_wire.specs.declared.messages.RegReply.{RegReply}
 use Rattle.rss_tables.specs.RegisterSession.{RegSession}
 use Rattle.rss_tables.specs.ReplicaRow.{opening_cell}
@@ -68,3 +69,10 @@ pub record SeenFromOne (c : Config) (steps : List Step) (u s : State) (key : Key
 pub record SeenFrom (c : Config) (steps : List Step) (u s : State) : Type 0 where
   pub write : (o : ℕ) (key : Key) (value : ℕ) (stamp : Carstamp) → Writes u o key value (phase.Done (ends.Written stamp)) → SeenFromOne c steps u s key stamp
   pub agreed : (o : ℕ) (key : Key) (cell : RegReply) → Reads u o key (phase.Done (ends.Read cell None)) → SeenFromOne c steps u s key cell.stamp
+
+-- from a state to a later one that these steps lead to: where a round of dependencies is done in the first, each
+-- dependency of the owner's copy on a register of its service has its step there, and a call that sends its own
+-- first round later sees it
+pub record FixesSettled (c : Config) (steps : List Step) (u s : State) : Type 0 where
+  pub fix : (o : ℕ) (r : RegSession) → (owner_at u o).session ≡ session.Fixing r → r.phase ≡ phase.Done ends.Fixed
+      → All (λ (dep : Dep). SeenFromOne c steps u s dep.key dep.stamp) (deps_of r.service (owner_at u o).works.copy.deps)

@@ -1,6 +1,6 @@
 //! The laws of rounds. They hold no code: each is the contract of a function that does nothing.
 
-ghost use Rattle.reg_laws.specs.Laws.{CurrentsAreAwaited, HeardRepliesAreOwn, StampsAreUnique, WhatIsHeldWasStored, RepliesProveHolding, RepliesTellOfBefore, EndsAreHeld, RoundsSeeWhatWasHeld, RoundsSeeSteps, ReadsAreLegal, PlacesAreInside, EndsAreSeen, SessionsAgree};
+ghost use Rattle.reg_laws.specs.Laws.{CurrentsAreAwaited, HeardRepliesAreOwn, StampsAreUnique, WhatIsHeldWasStored, RepliesProveHolding, RepliesTellOfBefore, EndsAreHeld, RoundsSeeWhatWasHeld, RoundsSeeSteps, ReadsAreLegal, PlacesAreInside, EndsAreSeen, SessionsAgree, FixesSettle};
 
 /// In every run each current exchange of an owner is one that it awaits: with a round under way it is
 /// the owner's request of the round's phase to the replica of its slot, and an owner with nothing
@@ -89,4 +89,11 @@ pub fn ends_are_seen()
 /// stores what the copy depends on of the service that comes next; a stub settles what its stage left.
 pub fn sessions_agree()
     ensures { SessionsAgree }
+{}
+
+/// From one state of a run to every later one: where an owner's round of dependencies is done in the
+/// first, each stamp that its copy depends on, on the registers of that service, has its step by then;
+/// a call that sends its own first round after the first sees it.
+pub fn fixes_settle()
+    ensures { FixesSettle }
 {}
