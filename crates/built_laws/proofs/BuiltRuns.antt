@@ -42,7 +42,7 @@ use Rattle.world_laws.proofs.Clock.{clock_step, run_counted}
 use Rattle.world_laws.proofs.Looks.{get_or_one, get_or_repeat, some_is, none_is_not}
 use Rattle.world_laws.proofs.Replies.{exchanges_run}
 use Rattle.world_laws.proofs.Runs.{passes, run_rest, run_none}
-use Rattle.world_laws.proofs.StoreWalk.{by_sent}
+use Rattle.world_laws.proofs.StoreMoves.{by_sent}
 
 -- THE START
 
