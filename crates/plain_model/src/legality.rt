@@ -1,14 +1,14 @@
 //! Whether an order of calls is legal.
 
-ghost use Rattle.std.specs.Prelude.{◌≡◌, ◌↔◌, IsTrue, IfOk, OnOk};
+ghost use Rattle.std.specs.Prelude.{◌≡◌, ◌≤◌, ◌↔◌, IsTrue, IfOk, OnOk, length};
 ghost use Rattle.rss_names.specs.declared.service.Key.{Key};
 ghost use Rattle.plain_model.specs.Written.{table_of};
-ghost use Rattle.rss_model.specs.Legal.{Legal, MeetsTable, table_after};
+ghost use Rattle.rss_model.specs.Legal.{Legal, MeetsTable, table_after, table_at, shown_by as shown_in};
 
 use crate::calls::{is_mutation, op_of, reply_of};
 use crate::formulas::guard_holds;
 use crate::tables::{add_writes, shown_by};
-use rss_model::{Candidate, Entry, History, Shown};
+use rss_model::{Candidate, Entry, History, Op, Shown};
 use rss_names::CallId;
 use std::alloc::{AllocError, Global};
 
@@ -32,6 +32,25 @@ pub(crate) fn is_legal(alloc: Global, h: &[Entry], c: &[CallId]) -> Result<bool,
         apply(alloc, h, &mut written, *call)?;
     }
     Ok(true)
+}
+
+/// What an operation would be shown at a place of an order, counted from 0: what the calls before
+/// that place have written.
+pub fn shown_at(
+    alloc: Global,
+    h: &[Entry],
+    order: &[CallId],
+    place: usize,
+    op: &Op,
+) -> Result<Vec<Shown>, AllocError>
+    requires { place ≤ length order.now }
+    ensures { IfOk result (λ shown. shown.items ≡ shown_in (table_at h.now order.now place) op.now) }
+{
+    let mut written = Vec::new(alloc);
+    for before in 0..place {
+        apply(alloc, h, &mut written, order[before])?;
+    }
+    shown_by(alloc, &written, op)
 }
 
 // Whether a call meets the table that these writes have made.

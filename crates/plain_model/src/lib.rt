@@ -13,7 +13,7 @@ mod regularity;
 mod tables;
 
 pub use causality::causal;
-pub use legality::legal;
+pub use legality::{legal, shown_at};
 pub use regularity::regular;
 
 #[cfg(test)]
