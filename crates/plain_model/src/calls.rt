@@ -26,7 +26,7 @@ pub(crate) fn op_of<'a>(h: &'a [Entry], call: CallId) -> Option<&'a Op>
 }
 
 /// The reply of a call, if it has ended.
-pub(crate) fn reply_of<'a>(h: &'a [Entry], call: CallId) -> Option<&'a Reply>
+pub fn reply_of<'a>(h: &'a [Entry], call: CallId) -> Option<&'a Reply>
     ensures { option_copied result ≡ found_reply h.now call }
 {
     for entry in h {

@@ -8,7 +8,7 @@ use pipeline_lang::Term;
 use rss_model::{Formula, Guard, Op, Shown};
 
 /// The value of a formula over what was shown.
-pub(crate) fn formula_value(formula: &Formula, shown: &[Shown]) -> u64
+pub fn formula_value(formula: &Formula, shown: &[Shown]) -> u64
     ensures { result ≡ value_of_formula formula.now (values_of shown.now) }
 {
     match formula {
@@ -19,7 +19,7 @@ pub(crate) fn formula_value(formula: &Formula, shown: &[Shown]) -> u64
 }
 
 /// Whether the guard of an operation, if it has one, holds of what was shown.
-pub(crate) fn guard_holds(op: &Op, shown: &[Shown]) -> bool
+pub fn guard_holds(op: &Op, shown: &[Shown]) -> bool
     ensures { result ≡ holds op.now (values_of shown.now) }
 {
     match op {

@@ -12,7 +12,9 @@ mod realtime;
 mod regularity;
 mod tables;
 
+pub use calls::reply_of;
 pub use causality::causal;
+pub use formulas::{formula_value, guard_holds};
 pub use legality::{legal, shown_at};
 pub use regularity::regular;
 
