@@ -1,3 +1,4 @@
 pub mod Comparing
 pub mod Distinct
+pub mod Inserting
 pub mod Ascending

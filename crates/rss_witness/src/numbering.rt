@@ -1,7 +1,7 @@
 //! Calls in order, numbered from 1.
 
 ghost use Rattle.std.specs.Prelude.{◌≡◌, ◌<◌, ◌^◌, length, IfOk};
-ghost use Rattle.first_machine.specs.Places.{numbered as numbered_from};
+ghost use Rattle.rss_machine.specs.Places.{numbered as numbered_from};
 
 use rss_machine::{KeyedCall, Placed};
 use std::alloc::{AllocError, Global};

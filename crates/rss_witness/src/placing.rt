@@ -1,8 +1,8 @@
 //! The places of a World.
 
-ghost use Rattle.std.specs.Prelude.{IfOk};
+ghost use Rattle.std.specs.Prelude.{◌≡◌, IfOk};
 ghost use Rattle.std.specs.List.Sorted.{IsPermutation, IsSortedByKey};
-ghost use Rattle.first_machine.specs.Places.{ArePlaces};
+ghost use Rattle.rss_machine.specs.Places.{places_of};
 ghost use Rattle.rss_witness.specs.Order.{key_of, key_order};
 
 use crate::keys::keyed_calls;
@@ -16,7 +16,7 @@ use std::alloc::{AllocError, Global};
 /// stands in the one legal order: calls are ordered by the step in which they take effect, and at
 /// equal steps by the order within their service. The only error is that memory is wanting.
 pub fn places(alloc: Global, w: &World) -> Result<Vec<Placed>, AllocError>
-    ensures { IfOk result (λ ps. ArePlaces w.now.state ps.items) }
+    ensures { IfOk result (λ ps. ps.items ≡ places_of w.now.state) }
 {
     let mut calls = keyed_calls(alloc, w)?;
     sort_by_keys(&mut calls);

@@ -1,5 +1,5 @@
 use Rattle.std.proofs.Common.{◌≡◌, ◌+◌, ◌++◌, drop}
-use Rattle.first_machine.specs.Places.{numbered as numbered_from}
+use Rattle.rss_machine.specs.Places.{numbered as numbered_from}
 use Rattle.rss_witness.proofs.numbering.numbered.Given as goal
 
 -- what is numbered and what is left to number are the whole

@@ -1,8 +1,10 @@
-use Rattle.std.proofs.Common.{arith, ◌≡◌, ◌<◌, ◌^◌, ◌∙◌, ap, length}
+use Rattle.std.proofs.Common.{arith, ◌≡◌, ◌<◌, ◌^◌, ◌∙◌, List, ap, subst, length}
+use Rattle.std.specs.List.Sorted.{IsPermutation}
 use Rattle.std.proofs.lemmas.List.Sorted.{length_permutation}
 use Rattle.std.proofs.lemmas.Result.{IfOk-weaker}
-use Rattle.first_machine.specs.Places.{ArePlaces, numbered}
-use Rattle.rss_witness.proofs.Ascending.{are_places}
+use Rattle.rss_machine.specs.Places.{numbered, keyed_calls, places_of}
+use Rattle.rss_machine.specs.declared.place.KeyedCall.{KeyedCall}
+use Rattle.rss_witness.proofs.Ascending.{are_sorted}
 use Rattle.rss_witness.proofs.placing.places.Goals as goal
 
 pub numbered-requires : goal.numbered-requires
@@ -13,7 +15,10 @@ numbered-requires c =
 
 pub returns : goal.returns
 returns c =
-    IfOk-weaker c.numbered.result _ (λ ps. ArePlaces c.args.w.now.state ps.items)
-    (λ ps numbers. are_places c.args.w.now.state c.in_ok-calls.calls.items c.sort_by_keys.new.calls.items ps.items c.in_ok-calls.ensures.all c.sort_by_keys.ensures.all c.sort_by_keys.ensures.sorted
-    (numbers ∙ ap (numbered 1) c.as_slice.ensures.value))
+    let s = c.args.w.now.state in
+    let order = c.sort_by_keys.new.calls.items in
+    let all : IsPermutation (keyed_calls s) order =
+    subst (λ (calls : List KeyedCall). IsPermutation calls order) c.in_ok-calls.ensures.all c.sort_by_keys.ensures.all in
+    IfOk-weaker c.numbered.result _ (λ ps. ps.items ≡ places_of s)
+    (λ ps numbers. numbers ∙ ap (numbered 1) (c.as_slice.ensures.value ∙ are_sorted s order all c.sort_by_keys.ensures.sorted))
     c.numbered.ensures
