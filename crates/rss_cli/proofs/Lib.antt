@@ -2,3 +2,8 @@ pub mod Tables
 pub mod Plays
 pub mod OneWord
 pub mod Sums
+pub mod Joins
+pub mod Turned
+pub mod Counts
+pub mod Placing
+pub mod Stages

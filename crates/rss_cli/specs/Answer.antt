@@ -1,10 +1,10 @@
 -- What the top call answers: which text and status, for which words and input.
-use Rattle.std.specs.Prelude.{ℕ, ◌≡◌, ◌≢◌, ◌<◌, ◌≤◌, ◌⊎◌, Bool, true, false, List, [], ◌∷◌, length, Option, Result, Ok, Err, codes}
+use Rattle.std.specs.Prelude.{ℕ, ◌≡◌, ◌≢◌, ◌<◌, ◌≤◌, ◌⊎◌, Bool, true, false, List, [], ◌∷◌, length, Option, Ok, Err, codes}
 use Rattle.std.specs.Io.KnownBytes.{Appends, Keeps}
 use Rattle.rss_io.specs.Pieces.{AppendsFront}
 use Rattle.pipeline_lang.specs.declared.config.Config.{Config}
-use Rattle.first_machine.specs.State.{State}
-use Rattle.first_machine.specs.Endings.{ending_of}
+use Rattle.rss_machine.specs.State.{State}
+use Rattle.rss_machine.specs.Endings.{ending_of}
 use Rattle.rss_machine.specs.declared.step.Step.{Step}
 use Rattle.rss_machine.specs.declared.step.StepRefusal.{StepRefusal}
 use Rattle.step_text.specs.Spelling.{text_of}
@@ -15,7 +15,6 @@ use Rattle.rss_cli.specs.Played.{IsRun, IsFirstRefused}
 use Rattle.rss_cli.specs.Reported.{IsReport}
 use Rattle.rss_cli.specs.Split.{Splits}
 use Rattle.rss_cli.specs.Statuses.{status_of}
-use Rattle.rss_cli.specs.declared.fault.Fault.{Fault}
 use Rattle.rss_cli.specs.declared.fault.Fault.TheVariants as fault
 use Rattle.pipeline_tables.specs.declared.fault.FileFault.{FileFault}
 use Rattle.pipeline_file.specs.Document.{config_of}

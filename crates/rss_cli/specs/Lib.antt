@@ -4,4 +4,5 @@ pub mod Served
 pub mod Split
 pub mod Played
 pub mod Reported
+pub mod Pieces
 pub mod Answer

@@ -1,7 +1,7 @@
 -- The files that the program runs today.
 use Rattle.std.specs.Prelude.{Bool, ◌&&◌, nat_le}
 use Rattle.pipeline_lang.specs.declared.config.Config.{Config}
-use Rattle.first_machine.specs.Built.{is_built}
+use Rattle.rss_machine.specs.Built.{is_built}
 
 -- whether the program runs a file: one that the World is built for, with at most 200,000 steps, as every valid file has
 abbrev pub is_served : Config → Bool

@@ -1,7 +1,7 @@
 //! Answers: the text and the status for an input, all made before the first byte is written.
 
 ghost use Rattle.std.specs.Prelude.{◌≡◌, ◌≤◌, true, false, IfOk, length};
-ghost use Rattle.first_machine.specs.Endings.{ending_of};
+ghost use Rattle.rss_machine.specs.Endings.{ending_of};
 ghost use Rattle.rss_cli.specs.Answer.{IsRead, IsReplayed, IsPlayed, IsStepsAnswer, IsFileAnswer, IsConfigAnswer, IsNotBuilt, steps_limit, input_limit, is_answer};
 ghost use Rattle.rss_cli.specs.FaultText.{fault_text};
 ghost use Rattle.rss_cli.specs.Served.{is_served};

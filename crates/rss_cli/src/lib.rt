@@ -10,10 +10,12 @@ mod names;
 mod play;
 mod reporting;
 mod served;
+mod service_lines;
 mod split;
 mod stage_lines;
 mod status;
 mod text;
+mod value_lines;
 
 pub use commands::{still_top, top};
 pub use reporting::report;

@@ -1,11 +1,11 @@
-//! The names of stages and registers.
+//! The names of stages, shards, pipes and keys.
 
-ghost use Rattle.std.specs.Prelude.{◌≡◌, ◌++◌, ◌+◌, [], OnOk, get_or};
-ghost use Rattle.first_machine.specs.ReportText.{stage_name, register_name};
+ghost use Rattle.std.specs.Prelude.{◌≡◌, ◌++◌, [], OnOk, get_or};
+ghost use Rattle.pipeline_lang.specs.Config.{stage_name, shard_name, pipe_name, key_name};
 
 use crate::text::put;
 use pipeline_lang::{Config, NameTable};
-use rss_names::Key;
+use rss_names::{Key, ServiceId, ShardId, StageId};
 use std::alloc::AllocError;
 
 /// Appends the name at a position of a table, from 0; nothing where there is none.
@@ -21,16 +21,33 @@ fn put_name(out: &mut Vec<u8>, table: &NameTable, position: usize) -> Result<(),
     }
 }
 
-/// Appends the name of the stage at a position in file order, from 0.
-pub fn put_stage(out: &mut Vec<u8>, config: &Config, position: usize) -> Result<(), AllocError>
-    ensures { OnOk result (out.new.items ≡ out.old.items ++ stage_name config.now (position + 1)) }
+/// Appends the name of a stage.
+pub fn put_stage(out: &mut Vec<u8>, config: &Config, stage: StageId) -> Result<(), AllocError>
+    ensures { OnOk result (out.new.items ≡ out.old.items ++ stage_name config.now stage) }
 {
-    put_name(out, &config.stages, position)
+    put_name(out, &config.stages, usize::from(stage.number()) - 1)
 }
 
-/// Appends the name of a register.
-pub fn put_register(out: &mut Vec<u8>, config: &Config, register: Key) -> Result<(), AllocError>
-    ensures { OnOk result (out.new.items ≡ out.old.items ++ register_name config.now register) }
+/// Appends the name of a shard.
+pub fn put_shard(out: &mut Vec<u8>, config: &Config, shard: ShardId) -> Result<(), AllocError>
+    ensures { OnOk result (out.new.items ≡ out.old.items ++ shard_name config.now shard) }
 {
-    put_name(out, &config.registers, usize::from(register.index))
+    put_name(out, &config.shards, usize::from(shard.number()) - 1)
+}
+
+/// Appends the name of a pipe, by its number from 1.
+pub fn put_pipe(out: &mut Vec<u8>, config: &Config, pipe: u8) -> Result<(), AllocError>
+    ensures { OnOk result (out.new.items ≡ out.old.items ++ pipe_name config.now pipe) }
+{
+    put_name(out, &config.pipes, usize::from(pipe).saturating_sub(1))
+}
+
+/// Appends the name of a key or register.
+pub fn put_key(out: &mut Vec<u8>, config: &Config, key: Key) -> Result<(), AllocError>
+    ensures { OnOk result (out.new.items ≡ out.old.items ++ key_name config.now key) }
+{
+    match key.service {
+        ServiceId::Txn(_) => put_name(out, &config.keys, usize::from(key.index)),
+        ServiceId::Reg(_) => put_name(out, &config.registers, usize::from(key.index)),
+    }
 }

@@ -1,7 +1,7 @@
 //! Steps of a list, made one after another.
 
 ghost use Rattle.std.specs.Prelude.{◌≡◌, ◌≤◌, ◌++◌, IfOk, IfErr, IsTrue};
-ghost use Rattle.first_machine.specs.Built.{is_built};
+ghost use Rattle.rss_machine.specs.Built.{is_built};
 ghost use Rattle.rss_cli.specs.Played.{HasPlayed, IsPlayError};
 
 use event_world::World;

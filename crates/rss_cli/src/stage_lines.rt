@@ -1,17 +1,20 @@
 //! The lines of the stages, and of the ending.
 
-ghost use Rattle.std.specs.Prelude.{◌≡◌, ◌++◌, ◌+◌, OnOk};
-ghost use Rattle.first_machine.specs.Endings.{life_state};
-ghost use Rattle.first_machine.specs.ReportText.{how_text, stub_text, stage_state_text, stage_line, stage_lines, ending_word, ending_line};
+ghost use Rattle.std.specs.Prelude.{◌≡◌, ◌++◌, OnOk, length};
+ghost use Rattle.rss_machine.specs.ReportText.{how_text, stub_text, await_text, stage_line, stage_lines, ending_line};
+ghost use Rattle.rss_machine.specs.Standing.{stage_state};
+ghost use Rattle.rss_machine.specs.Turns.{next_for};
+ghost use Rattle.rss_cli.specs.Pieces.{waits_text, standing_text};
 
-use crate::names::put_stage;
-use crate::text::put;
-use first_machine::Stage;
+use crate::names::{put_pipe, put_stage};
+use crate::text::{put, put_number};
+use event_world::World;
 use pipeline_lang::Config;
-use rss_machine::{Ending, Life, StageState};
+use rss_machine::{Ending, StageState};
 use rss_model::How;
-use rss_tables::StubEnd;
-use std::alloc::AllocError;
+use rss_names::StageId;
+use rss_tables::{Await, StubEnd};
+use std::alloc::{AllocError, Global};
 
 /// Appends how a stage died.
 fn put_how(out: &mut Vec<u8>, how: How) -> Result<(), AllocError>
@@ -35,13 +38,64 @@ fn put_stub(out: &mut Vec<u8>, end: Option<StubEnd>) -> Result<(), AllocError>
     }
 }
 
+/// Appends what a blocked stage waits for.
+fn put_await(
+    alloc: Global,
+    out: &mut Vec<u8>,
+    config: &Config,
+    awaited: Await,
+) -> Result<(), AllocError>
+    ensures { OnOk result (out.new.items ≡ out.old.items ++ await_text config.now awaited) }
+{
+    match awaited {
+        Await::Take(pipe) => {
+            put(out, b"waits take ")?;
+            put_pipe(out, config, pipe)
+        }
+        Await::Put(pipe) => {
+            put(out, b"waits put ")?;
+            put_pipe(out, config, pipe)
+        }
+        Await::Stage(stage) => {
+            put(out, b"waits stage ")?;
+            put_stage(out, config, stage)
+        }
+        Await::Call(call) => {
+            put(out, b"waits call ")?;
+            put_number(alloc, out, u64::from(call.number()))
+        }
+    }
+}
+
+/// Appends that a live stage runs, or what it waits for.
+fn put_waits(
+    alloc: Global,
+    out: &mut Vec<u8>,
+    config: &Config,
+    blocked: Option<Await>,
+) -> Result<(), AllocError>
+    ensures { OnOk result (out.new.items ≡ out.old.items ++ waits_text config.now blocked) }
+{
+    match blocked {
+        None => put(out, b"running"),
+        Some(awaited) => put_await(alloc, out, config, awaited),
+    }
+}
+
 /// Appends how a stage stands.
-fn put_standing(out: &mut Vec<u8>, standing: StageState) -> Result<(), AllocError>
-    ensures { OnOk result (out.new.items ≡ out.old.items ++ stage_state_text standing) }
+fn put_standing(
+    alloc: Global,
+    out: &mut Vec<u8>,
+    config: &Config,
+    blocked: Option<Await>,
+    standing: StageState,
+) -> Result<(), AllocError>
+    ensures { OnOk result (out.new.items ≡
+        out.old.items ++ standing_text config.now blocked standing) }
 {
     match standing {
         StageState::Unborn => put(out, b"unborn"),
-        StageState::Live => put(out, b"running"),
+        StageState::Live => put_waits(alloc, out, config, blocked),
         StageState::Exited => put(out, b"exited"),
         StageState::Ended(how, end) => {
             put_how(out, how)?;
@@ -50,43 +104,38 @@ fn put_standing(out: &mut Vec<u8>, standing: StageState) -> Result<(), AllocErro
     }
 }
 
-/// How a stage of this life stands. No stage has a stub yet.
-fn standing_of(life: Life) -> StageState
-    ensures { result ≡ life_state life }
-{
-    match life {
-        Life::Unborn => StageState::Unborn,
-        Life::Live => StageState::Live,
-        Life::Over(How::Exited) => StageState::Exited,
-        Life::Over(How::Killed) => StageState::Ended(How::Killed, None),
-        Life::Over(How::Unavailable) => StageState::Ended(How::Unavailable, None),
-    }
-}
-
-/// Appends the line of the stage at a position in file order, from 0.
-#[tactic(auto, unfolding(first_machine::specs::ReportText::stage_line))]
+/// Appends the line of a stage.
+#[tactic(auto, using(crate::proofs::Turned::standing_is), unfolding(rss_machine::specs::ReportText::stage_line))]
 fn put_stage_line(
+    alloc: Global,
     out: &mut Vec<u8>,
-    config: &Config,
-    position: usize,
-    standing: StageState,
+    w: &World,
+    stage: StageId,
 ) -> Result<(), AllocError>
     ensures { OnOk result (out.new.items ≡
-        out.old.items ++ stage_line config.now (position + 1) standing) }
+        out.old.items ++ stage_line w.now.config stage (next_for w.now.config w.now.state stage) (stage_state w.now.state stage)) }
 {
     put(out, b"stage ")?;
-    put_stage(out, config, position)?;
+    put_stage(out, w.config(), stage)?;
     put(out, b" ")?;
-    put_standing(out, standing)?;
+    put_standing(
+        alloc,
+        out,
+        w.config(),
+        w.blocked(stage),
+        w.stage_state(stage),
+    )?;
     put(out, b"\n")
 }
 
 /// Appends the lines of the stages, in file order.
-pub fn put_stages(out: &mut Vec<u8>, config: &Config, stages: &[Stage]) -> Result<(), AllocError>
-    ensures { OnOk result (out.new.items ≡ out.old.items ++ stage_lines config.now 1 stages.now) }
+pub fn put_stages(alloc: Global, out: &mut Vec<u8>, w: &World) -> Result<(), AllocError>
+    ensures { OnOk result (out.new.items ≡
+        out.old.items ++ stage_lines w.now.config w.now.state 1 (length w.now.state.stages)) }
 {
-    for (position, stage) in stages.iter().enumerate() {
-        put_stage_line(out, config, position, standing_of(stage.life))?;
+    for before in 0..w.stages() {
+        let stage = StageId::new(before + 1).unwrap();
+        put_stage_line(alloc, out, w, stage)?;
     }
     Ok(())
 }

@@ -1,5 +1,5 @@
 use Rattle.std.proofs.Common.{◌≡◌, drop}
-use Rattle.first_machine.specs.ReportText.{place_in}
+use Rattle.rss_machine.specs.ReportText.{place_in}
 use Rattle.rss_cli.proofs.call_lines.place_of.Given as goal
 
 abbrev pub invariant-loop-placed : goal.invariant-loop-placed

@@ -1,5 +1,5 @@
 -- Past the end of the table the name is empty, and nothing is appended.
-use Rattle.std.proofs.Common.{◌≡◌, ◌++◌, [], append-nil, sym, ◌∙◌, ap, List, ℕ}
+use Rattle.std.proofs.Common.{◌++◌, append-nil, sym, ◌∙◌, ap, List, ℕ}
 use Rattle.rss_cli.proofs.Tables.{no_name}
 use Rattle.rss_cli.proofs.names.put_name.Goals as goal
 
