@@ -30,6 +30,11 @@ fn lists_of_steps_are_answered(rt: HostRuntime) -> Result<(), Fail> {
             1,
             "call 1 a write open\nstage a running\nending unfinished\n",
         ),
+        (
+            "act 1 10 14\ngo 1 20 24\ngo 2 30 34\ngo 3 40 44\ngo 4 50 54\ngo 5 60 64\ngo 6 70 74\ngo 7 80 84\n",
+            1,
+            "call 1 a write r 5 open place 1\nstage a running\nending unfinished\n",
+        ),
         ("act 1 10 20\ngo 1 5 9\n", 2, "fault step 2 Reading 10 9\n"),
         (
             "act 1 10 14\ngo 9 20 24\n",

@@ -1,7 +1,7 @@
 //! Refusals of the World, and one file's log running full.
 
 ghost use Rattle.std.specs.Prelude.{◌≡◌, ◌≤◌, [], ◌∷◌, true, IfOk, IsTrue};
-ghost use Rattle.first_machine.specs.Built.{is_built, is_built_script, are_built_services, are_built_bodies};
+ghost use Rattle.rss_machine.specs.Built.{is_built, is_built_script, are_built_services, are_built_bodies};
 
 use event_world::World;
 use pipeline_lang::{Body, Config, Expr, NameTable, Script, ServiceDef, Statement, Term};

@@ -1,4 +1,0 @@
-pub mod Shape
-pub mod Registers
-pub mod Holders
-pub mod Laws
