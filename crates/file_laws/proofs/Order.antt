@@ -19,7 +19,7 @@ use Rattle.pipeline_file.specs.Declarations.{declare, declare_all, gather, built
 use Rattle.pipeline_file.specs.Doubles.{same_kind, names_of}
 use Rattle.pipeline_file.specs.Services.{for_each, further_one, next_txn, next_reg, owners_from, register_services, homes_from}
 use Rattle.pipeline_file.specs.NameTables.{all_declared}
-use Rattle.file_laws.specs.FileOrder.{flat, InFileOrder, TablesAreInFileOrder}
+use Rattle.file_laws.specs.FileOrder.{flat, TablesAreInFileOrder}
 
 -- names of lists behind one another
 one_more : (t : Bool) (x : List ℕ) (xs ys : List (List ℕ)) → cond t (x ∷ (xs ++ ys)) (xs ++ ys) ≡ cond t (x ∷ xs) xs ++ ys

@@ -1,5 +1,5 @@
 -- The tables of names hold the names of the file in file order, and there is a home for each key and a service for each register.
-use Rattle.std.specs.Prelude.{◌≡◌, ℕ, List, [], ◌∷◌, ◌++◌, length, map}
+use Rattle.std.specs.Prelude.{◌≡◌, List, [], ◌∷◌, ◌++◌, length, map}
 use Rattle.pipeline_tables.specs.declared.tables.FileTables.{FileTables}
 use Rattle.pipeline_file.specs.NameTables.{all_declared}
 
