@@ -19,7 +19,7 @@ use Rattle.pipeline_tables.specs.Lists.{some_items, some_members, names_of, so_m
 use Rattle.pipeline_tables.specs.Rows.{most_registers, kind_at, root_of, shard_of, pipe_of, stage_of, withhold_of, kill_of, service_of}
 use Rattle.pipeline_tables.specs.Services.{services_from, array_place, tables_said}
 use Rattle.file_laws.proofs.Each.{Each}
-use Rattle.file_laws.proofs.Went.{ok_same, went, went_onto}
+use Rattle.file_laws.proofs.Went.{ok_same, went, went_onto, after}
 
 -- an array of so many tables at most
 both_tests : (a b c : Bool) (xs ys : Items) (first second : FileFault) → cond a (cond (b && c) (Ok xs) (Err first)) (Err second) ≡ Ok ys → (c ≡ true) × (xs ≡ ys)
@@ -117,21 +117,23 @@ at_most : (few most : ℕ) (ts : List ServiceTable) → few ≤ most → AreFew 
 at_most few most ts l f = record { few = omega (arith, l, f.few); bare = f.bare }
 
 -- the services of a document
-pub tables_few : (keyed : Members) (t : FileTables) → tables_said keyed ≡ Ok t → AreFew 6 t.services
+abbrev HasFew : FileTables → Type 0
+HasFew t = AreFew 6 t.services
+
+pub tables_few : (keyed : Members) (t : FileTables) → tables_said keyed ≡ Ok t → HasFew t
 unfolding tables_said
-tables_few keyed t h =
-    let root = went (root_of keyed) _ t h in
-    let shard_items = went (tables_or_none 16 (array_place key.Shard) keyed) _ t root.1.1 in
-    let shards = went (rows_from (shard_of root.0) (array_place key.Shard) 1 shard_items.0) _ t shard_items.1.1 in
-    let pipe_items = went (tables_or_none 16 (array_place key.Pipe) keyed) _ t shards.1.1 in
-    let pipes = went (rows_from (pipe_of root.0) (array_place key.Pipe) 1 pipe_items.0) _ t pipe_items.1.1 in
-    let stage_items = went (tables_at 1 16 (array_place key.Stage) keyed) _ t pipes.1.1 in
-    let stages = went (rows_from (stage_of root.0) (array_place key.Stage) 1 stage_items.0) _ t stage_items.1.1 in
-    let withhold_items = went (tables_or_none 64 (array_place key.Withhold) keyed) _ t stages.1.1 in
-    let withholds = went (rows_from (withhold_of root.0) (array_place key.Withhold) 1 withhold_items.0) _ t withhold_items.1.1 in
-    let kill_items = went (tables_or_none 16 (array_place key.Kill) keyed) _ t withholds.1.1 in
-    let kills = went (rows_from (kill_of root.0) (array_place key.Kill) 1 kill_items.0) _ t kill_items.1.1 in
-    let service_items = went (tables_or_none 6 (array_place key.Service) keyed) _ t kills.1.1 in
-    let services = went (services_from root.0 (array_place key.Service) (64 - length root.0.registers) 1 service_items.0) _ t service_items.1.1 in
-    subst (λ (u : FileTables). AreFew 6 u.services) (ok_same _ t services.1.1)
-    (at_most (item_count service_items.0) 6 services.0 (few_tables 6 (array_place key.Service) keyed service_items.0 service_items.1.0) (services_few root.0 (array_place key.Service) (64 - length root.0.registers) 1 service_items.0 services.0 services.1.0))
+tables_few keyed t = after HasFew t (root_of keyed) _ (λ root _.
+    after HasFew t (tables_or_none 16 (array_place key.Shard) keyed) _ (λ shard_items _.
+    after HasFew t (rows_from (shard_of root) (array_place key.Shard) 1 shard_items) _ (λ shards _.
+    after HasFew t (tables_or_none 16 (array_place key.Pipe) keyed) _ (λ pipe_items _.
+    after HasFew t (rows_from (pipe_of root) (array_place key.Pipe) 1 pipe_items) _ (λ pipes _.
+    after HasFew t (tables_at 1 16 (array_place key.Stage) keyed) _ (λ stage_items _.
+    after HasFew t (rows_from (stage_of root) (array_place key.Stage) 1 stage_items) _ (λ stages _.
+    after HasFew t (tables_or_none 64 (array_place key.Withhold) keyed) _ (λ withhold_items _.
+    after HasFew t (rows_from (withhold_of root) (array_place key.Withhold) 1 withhold_items) _ (λ withholds _.
+    after HasFew t (tables_or_none 16 (array_place key.Kill) keyed) _ (λ kill_items _.
+    after HasFew t (rows_from (kill_of root) (array_place key.Kill) 1 kill_items) _ (λ kills _.
+    after HasFew t (tables_or_none 6 (array_place key.Service) keyed) _ (λ service_items few.
+    after HasFew t (services_from root (array_place key.Service) (64 - length root.registers) 1 service_items) _ (λ services said made.
+    subst HasFew (ok_same _ t made)
+    (at_most (item_count service_items) 6 services (few_tables 6 (array_place key.Service) keyed service_items few) (services_few root (array_place key.Service) (64 - length root.registers) 1 service_items services said)))))))))))))))

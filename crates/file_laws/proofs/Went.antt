@@ -20,3 +20,8 @@ went (Err first) f y h = absurd cc
 pub went_onto : {A : Type 0} (x : A) (m : Result (List A) FileFault) (ys : List A) → onto (x ∷ []) m ≡ Ok ys → (zs : List A) × ((m ≡ Ok zs) × ((x ∷ zs) ≡ ys))
 went_onto x (Ok zs) ys h = (zs, (refl, ok_same (x ∷ zs) ys h))
 went_onto x (Err first) ys h = absurd cc
+
+-- the same for what holds of the answer: each value is a variable of what follows
+pub after : {A B : Type 0} (P : B → Type 0) (y : B) (m : Result A FileFault) (f : A → Result B FileFault) → ((x : A) → m ≡ Ok x → f x ≡ Ok y → P y) → (m >>= f) ≡ Ok y → P y
+after P y (Ok x) f next h = next x refl h
+after P y (Err first) f next h = absurd cc
