@@ -1,117 +1,59 @@
 -- What a message that comes does in a run of a file that is built keeps it simple: a replica serves a
--- request, and a read or a write hears a reply, begins its next round or ends.
-use Rattle.std.proofs.Common.{◌≡◌, ℕ, suc, ◌+◌, ◌-◌, ◌<◌, ◌≤◌, ◌⊎◌, inl, inr, Bool, true, false, List, [], ◌∷◌, length, get_or, Option, Some, None, refl, ap, sym, ◌∙◌, subst, arith}
+-- request; a read or a write, or a round of dependencies, hears a reply, goes on or ends.
+use Rattle.std.proofs.Common.{◌≡◌, ℕ, suc, ◌+◌, ◌-◌, ◌<◌, ◌≤◌, Bool, true, false, length, Option, Some, None, refl, sym, ◌∙◌, subst, arith}
 use Rattle.std.proofs.lemmas.Bool.{false≢true}
 use Rattle.truetime.specs.Reading.{Reading}
-use Rattle.rss_names.specs.declared.service.Key.{Key}
 use Rattle.rss_names.specs.declared.service.ServiceId.{ServiceId}
 use Rattle.rss_names.specs.declared.service.Target.{Target}
 use Rattle.rss_names.specs.declared.service.Target.TheVariants.{Shard, Replica}
-use Rattle.causal_context.specs.declared.dep.Dep.{Dep}
-use Rattle.causal_context.specs.Seen.{after_read, after_write}
 use Rattle.pipeline_lang.specs.declared.config.Config.{Config}
-use Rattle.pipeline_lang.specs.declared.script.Statement.{Statement}
-use Rattle.rss_model.specs.CallStatement.{after_call}
-use Rattle.rss_model.specs.Cursor.{Cursor}
-use Rattle.rss_model.specs.Operation.{values_of}
-use Rattle.rss_model.specs.declared.op.Shown.{Shown}
 use Rattle.rss_wire.specs.declared.envelope.Envelope.{Envelope}
 use Rattle.rss_wire.specs.declared.message.Body.{Body}
 use Rattle.rss_wire.specs.declared.message.Body.TheVariants as body
-use Rattle.rss_wire.specs.declared.message.Fate.TheVariants as fate
+use Rattle.rss_wire.specs.declared.message.Fate.{Fate}
 use Rattle.rss_wire.specs.declared.messages.Request.{Request}
 use Rattle.rss_wire.specs.declared.messages.Reply.{Reply}
 use Rattle.rss_wire.specs.Messages.{message_at}
 use Rattle.rss_tables.specs.Outs.{slot_replica}
 use Rattle.rss_tables.specs.RegisterSession.{RegSession, session_after, phase_end}
-use Rattle.rss_tables.specs.Works.{plan_for}
 use Rattle.rss_tables.specs.declared.register_session.RegEnd.{RegEnd}
-use Rattle.rss_tables.specs.declared.register_session.RegEnd.TheVariants as ends
-use Rattle.rss_tables.specs.declared.register_session.RegWork.{RegWork}
-use Rattle.rss_tables.specs.declared.register_session.RegWork.TheVariants as work
-use Rattle.rss_machine.specs.Built.{built_service}
-use Rattle.rss_machine.specs.Calls.{register_ends, replies}
-use Rattle.rss_machine.specs.Effect.{request_comes, register_goes_on, opens_round, owner_hears, reply_comes, comes}
-use Rattle.rss_machine.specs.Enabling.{next_statement}
-use Rattle.rss_machine.specs.Moves.{marks_message, turns_session, forgets, listens}
+use Rattle.rss_tables.specs.declared.register_session.RegPhase.{RegPhase}
+use Rattle.rss_tables.specs.declared.register_session.RegPhase.TheVariants.{Fixing, Asking, Stamping, Storing, Done}
+use Rattle.rss_machine.specs.Calls.{launches_cleared, fix_ends}
+use Rattle.rss_machine.specs.Effect.{request_comes, register_goes_on, fix_goes_on, opens_round, owner_hears, reply_comes, comes}
+use Rattle.rss_machine.specs.Moves.{marks_message, turns_session, forgets, listens, clears}
 use Rattle.rss_machine.specs.Session.{Session}
 use Rattle.rss_machine.specs.Slots.{slot_in}
-use Rattle.rss_machine.specs.State.{State, Stage, no_stage, stage_at, owner_at}
+use Rattle.rss_machine.specs.State.{State, owner_at}
+use Rattle.rss_machine.specs.declared.session.OwnerKind.{OwnerKind}
+use Rattle.rss_machine.specs.declared.session.OwnerKind.TheVariants as kind
 use Rattle.rss_machine.specs.declared.session.Session.TheVariants as session
-use Rattle.built_laws.specs.Ready.{is_built_target, is_call_request, body_number}
-use Rattle.built_laws.proofs.Scripts.{IsBuilt, Stands, writes, reads, exits}
-use Rattle.built_laws.proofs.Simple.{no_plan, work_service, IsCall, IsUnder, is_read_work, is_reading, is_call_body, Simple, position_at, raised}
-use Rattle.built_laws.proofs.Moves.{p_fate, p_owner, p_serves, p_ends}
-use Rattle.built_laws.proofs.Sessions.{call_after, after_work, stored_number, opened_store, p_round}
-use Rattle.world_laws.proofs.Looks.{looks, get_or_past, some_is}
+use Rattle.built_laws.specs.Ready.{is_replica, body_number}
+use Rattle.built_laws.proofs.Scripts.{IsBuilt, place_service}
+use Rattle.built_laws.proofs.Simple.{IsEnd, IsPhase, IsCall, IsFix, IsUnder, IsKind, IsRequest, IsBody, Simple, raised}
+use Rattle.built_laws.proofs.Moves.{p_fate, p_owner}
+use Rattle.built_laws.proofs.Serves.{p_serves}
+use Rattle.built_laws.proofs.Sessions.{call_after, fix_after, p_round}
+use Rattle.built_laws.proofs.Launches.{p_launches_call}
+use Rattle.built_laws.proofs.Ends.{p_register_ends}
+use Rattle.world_laws.proofs.Looks.{looks, some_is, none_is_not}
 
--- behind a call a stage stands no further back, and behind one made past its write it stands past its read
-position_later : (place : ℕ) (at : Cursor) (x : Statement ℕ Key ℕ ℕ) (values : List ℕ) → Stands place at.position x → at.position ≤ (after_call at x values).position
-position_later place at _ values (writes key value e s) = omega arith
-position_later place at _ [] (reads variable key e s) = omega arith
-position_later place at _ (value ∷ values) (reads variable key e s) = omega arith
-position_later place at _ values (exits z) = omega arith
+-- the service of the stage of an owner
+abbrev own : Config → State → ℕ → ServiceId
+own c s o = place_service c ((owner_at s o).stage - 1)
 
-position_past : (place : ℕ) (at : Cursor) (x : Statement ℕ Key ℕ ℕ) (values : List ℕ) → Stands place at.position x → place ≡ 0 → 0 < at.position → 2 ≤ (after_call at x values).position
-position_past place at _ values (writes key value e s) z p = absurd (omega (arith, e, p))
-position_past place at _ [] (reads variable key e s) z p = omega (arith, e)
-position_past place at _ (value ∷ values) (reads variable key e s) z p = omega (arith, e)
-position_past place at _ values (exits e) z p = e z
+-- an owner has another session, no exchange that is current, or no dependency
+p_turns : (c : Config) (b k l : ℕ) (s : State) (o : ℕ) (x : Session) → IsUnder b (own c s o) x → Simple c b k l s → Simple c b k l (turns_session s o x)
+p_turns c b k l s o x u h = p_owner c b k l s o _ (let w = h.owner o in record { left = w.left; wait = w.wait; kind = w.kind; under = u; lost = w.lost }) h
 
--- a stage that has begun is the first
-first_place : (stages : List Stage) (place : ℕ) → length stages ≤ 1 → 0 < position_at stages place → place ≡ 0
-first_place stages place l p = by_place (get_or_past stages place no_stage)
-  where
-    by_place : (place < length stages) ⊎ (get_or stages place no_stage ≡ no_stage) → place ≡ 0
-    by_place (inl i) = omega (arith, i, l)
-    by_place (inr e) = let q = ap (λ (x : Stage). x.cursor.position) e in absurd (omega (arith, q, p))
+p_forgets : (c : Config) (b k l : ℕ) (s : State) (o : ℕ) → Simple c b k l s → Simple c b k l (forgets s o)
+p_forgets c b k l s o h = p_owner c b k l s o _ (let w = h.owner o in record { left = w.left; wait = w.wait; kind = w.kind; under = w.under; lost = w.lost }) h
 
--- a call ends
-p_read_ends : (c : Config) (b k l : ℕ) (s : State) (o : ℕ) (shown : List Shown) (service : ServiceId) (dep : Option Dep) → IsBuilt c → service ≡ built_service → 0 < position_at s.stages ((owner_at s o).stage - 1) → Simple b k l s → Simple b k l (replies c s o shown (after_read (owner_at s o).works.copy service dep))
-p_read_ends c b k l s o shown service dep i e p h =
-    let n = (owner_at s o).stage in
-    let x = next_statement c s n in
-    let st = i.stands n (stage_at s n).cursor.position in
-    let q = position_past (n - 1) (stage_at s n).cursor x (values_of shown) st (first_place s.stages (n - 1) h.one p) p in
-    p_ends b k l s o shown (after_call (stage_at s n).cursor x (values_of shown)) (after_read (owner_at s o).works.copy service dep)
-    (record {
-      plan = subst (λ (y : ServiceId). plan_for (after_read (owner_at s o).works.copy y dep) built_service ≡ no_plan) (sym e) refl;
-      deps = λ z. absurd (omega (arith, q, z));
-      acts = (h.stage (n - 1)).acts;
-    })
-    (position_later (n - 1) (stage_at s n).cursor x (values_of shown) st) h
+p_listens : (c : Config) (b k l : ℕ) (s : State) (o slot : ℕ) → Simple c b k l s → Simple c b k l (listens s o slot)
+p_listens c b k l s o slot h = p_owner c b k l s o _ (let w = h.owner o in record { left = w.left; wait = w.wait; kind = w.kind; under = w.under; lost = w.lost }) h
 
-p_write_ends : (c : Config) (b k l : ℕ) (s : State) (o : ℕ) (shown : List Shown) (service : ServiceId) → IsBuilt c → service ≡ built_service → Simple b k l s → Simple b k l (replies c s o shown (after_write (owner_at s o).works.copy service))
-p_write_ends c b k l s o shown service i e h =
-    let n = (owner_at s o).stage in
-    let x = next_statement c s n in
-    let st = i.stands n (stage_at s n).cursor.position in
-    p_ends b k l s o shown (after_call (stage_at s n).cursor x (values_of shown)) (after_write (owner_at s o).works.copy service)
-    (record {
-      plan = subst (λ (y : ServiceId). plan_for (after_write (owner_at s o).works.copy y) built_service ≡ no_plan) (sym e) refl;
-      deps = λ z. refl;
-      acts = (h.stage (n - 1)).acts;
-    })
-    (position_later (n - 1) (stage_at s n).cursor x (values_of shown) st) h
-
-p_register_ends : (c : Config) (b k l : ℕ) (s : State) (o : ℕ) (w : RegWork) (end : RegEnd) → IsBuilt c → work_service w ≡ Some built_service → (is_read_work w ≡ true → 0 < position_at s.stages ((owner_at s o).stage - 1)) → Simple b k l s → Simple b k l (register_ends c s o w end)
-p_register_ends c b k l s o (work.Read key) (ends.Read cell dep) i e p h = p_read_ends c b k l s o _ key.service dep i (some_is key.service built_service e) (p refl) h
-p_register_ends c b k l s o (work.Write key value) (ends.Written stamp) i e p h = p_write_ends c b k l s o _ key.service i (some_is key.service built_service e) h
-p_register_ends c b k l s o (work.Read key) (ends.Written stamp) i e p h = h
-p_register_ends c b k l s o (work.Read key) ends.Fixed i e p h = h
-p_register_ends c b k l s o (work.Write key value) (ends.Read cell dep) i e p h = h
-p_register_ends c b k l s o (work.Write key value) ends.Fixed i e p h = h
-p_register_ends c b k l s o (work.Fix deps) end i e p h = h
-
--- an owner has another session, and no exchange that is current
-p_turns : (b k l : ℕ) (s : State) (o : ℕ) (g : RegSession) → IsCall b g → (is_read_work g.work ≡ true → 0 < position_at s.stages ((owner_at s o).stage - 1)) → Simple b k l s → Simple b k l (turns_session s o (session.Register g))
-p_turns b k l s o g a p h = p_owner b k l s o _ (record { wait = (h.owner o).wait; under = a; past = p }) h
-
-p_forgets : (b k l : ℕ) (s : State) (o : ℕ) → Simple b k l s → Simple b k l (forgets s o)
-p_forgets b k l s o h = p_owner b k l s o _ (let w = h.owner o in record { wait = w.wait; under = w.under; past = w.past }) h
-
-p_listens : (b k l : ℕ) (s : State) (o slot : ℕ) → Simple b k l s → Simple b k l (listens s o slot)
-p_listens b k l s o slot h = p_owner b k l s o _ (let w = h.owner o in record { wait = w.wait; under = w.under; past = w.past }) h
+p_clears : (c : Config) (b k l : ℕ) (s : State) (o : ℕ) → Simple c b k l s → Simple c b k l (clears s o)
+p_clears c b k l s o h = p_owner c b k l s o _ (let w = h.owner o in record { left = w.left; wait = w.wait; kind = w.kind; under = tt; lost = w.lost }) h
 
 -- the stage of an owner stays
 forgets_stage : (s : State) (o : ℕ) → (owner_at (forgets s o) o).stage ≡ (owner_at s o).stage
@@ -123,53 +65,78 @@ turns_stage s o x = grind (arith, looks)
 listens_stage : (s : State) (o slot : ℕ) → (owner_at (listens s o slot) o).stage ≡ (owner_at s o).stage
 listens_stage s o slot = grind (arith, looks)
 
+clears_stage : (s : State) (o : ℕ) → (owner_at (clears s o) o).stage ≡ (owner_at s o).stage
+clears_stage s o = grind (arith, looks)
+
 -- a read or a write goes on
-p_goes_on : (c : Config) (b k l : ℕ) (s : State) (o : ℕ) (g : RegSession) (anew : Bool) (end : Option RegEnd) → IsBuilt c → IsCall b g → (is_read_work g.work ≡ true → 0 < position_at s.stages ((owner_at s o).stage - 1)) → (anew ≡ true → stored_number g.phase ≤ suc b) → 0 < o → Simple b k l s → Simple (suc b) k (l + 3) (register_goes_on c s o g anew end)
-p_goes_on c b k l s o g anew (Some end) i a p n z h =
+ended : (b : ℕ) (service : ServiceId) (p : RegPhase) (end : RegEnd) → IsPhase b service p → phase_end p ≡ Some end → IsEnd b service end
+ended b service Fixing end h e = absurd (none_is_not end e)
+ended b service Asking end h e = absurd (none_is_not end e)
+ended b service Stamping end h e = absurd (none_is_not end e)
+ended b service (Storing stamp) end h e = absurd (none_is_not end e)
+ended b service (Done own) end h e = subst (IsEnd b service) (some_is own end e) h
+
+p_goes_on : (c : Config) (b k l : ℕ) (s : State) (o : ℕ) (g : RegSession) (anew : Bool) (end : Option RegEnd) → phase_end g.phase ≡ end → IsCall b (own c s o) g → 0 < o → Simple c b k l s → Simple c b k (l + 7) (register_goes_on c s o g anew end)
+p_goes_on c b k l s o g anew (Some end) q a z h =
     let t = turns_session s o (session.Register g) in
     let e : (owner_at (forgets t o) o).stage ≡ (owner_at s o).stage = forgets_stage t o ∙ turns_stage s o (session.Register g) in
-    raised b (suc b) k k l (l + 3) _ (omega arith) (omega arith) (omega arith)
-    (p_register_ends c b k l (forgets t o) o g.work end i a.work
-    (λ r. subst (λ (m : ℕ). 0 < position_at s.stages (m - 1)) (sym e) (p r))
-    (p_forgets b k l t o (p_turns b k l s o g a p h)))
-p_goes_on c b k l s o g true None i a p n z h =
+    let f = subst (λ (m : ℕ). IsCall b (place_service c (m - 1)) g) (sym e) a in
+    raised c b b k k l (l + 7) _ (omega arith) (omega arith) (omega arith)
+    (p_register_ends c b k l (forgets t o) o g.work end f.work (ended b _ g.phase end f.phase q) (p_forgets c b k l t o (p_turns c b k l s o (session.Register g) a h)))
+p_goes_on c b k l s o g true None q a z h =
     let t = forgets s o in
-    let u = turns_session t o (session.Register g) in
-    p_round (suc b) k l o g.call g.work g.phase g.service g.round.cut g.round.replicas u a.work (n refl) a.service a.replicas z
-    (raised b (suc b) k k l l u (omega arith) (omega arith) (omega arith)
-    (p_turns b k l t o g a (λ r. subst (λ (m : ℕ). 0 < position_at s.stages (m - 1)) (sym (forgets_stage s o)) (p r)) (p_forgets b k l s o h)))
-p_goes_on c b k l s o g false None i a p n z h = raised b (suc b) k k l (l + 3) _ (omega arith) (omega arith) (omega arith) (p_turns b k l s o g a p h)
+    let f = subst (λ (m : ℕ). IsCall b (place_service c (m - 1)) g) (sym (forgets_stage s o)) a in
+    p_round c b k l o (own c s o) g (turns_session t o (session.Register g)) a z (p_turns c b k l t o (session.Register g) f (p_forgets c b k l s o h))
+p_goes_on c b k l s o g false None q a z h = raised c b b k k l (l + 7) _ (omega arith) (omega arith) (omega arith) (p_turns c b k l s o (session.Register g) a h)
+
+-- a round of dependencies goes on, or the call's own rounds begin behind it
+p_cleared : (c : Config) (b k l : ℕ) (s : State) (o : ℕ) (at : Reading) (x : OwnerKind) → IsBuilt c → IsKind (own c s o) x → 0 < o → Simple c b k l s → Simple c b k (l + 7) (launches_cleared c s o at x)
+p_cleared c b k l s o at (kind.Calling x) i e z h = p_launches_call c b k l s o at x i e z h
+p_cleared c b k l s o at kind.Fencing i e z h = raised c b b k k l (l + 7) s (omega arith) (omega arith) (omega arith) h
+p_cleared c b k l s o at (kind.Stubbing unsettled) i e z h = raised c b b k k l (l + 7) s (omega arith) (omega arith) (omega arith) h
+
+p_fix_goes_on : (c : Config) (b k l : ℕ) (s : State) (o : ℕ) (at : Reading) (g : RegSession) (end : Option RegEnd) → IsBuilt c → IsFix b g → 0 < o → Simple c b k l s → Simple c b k (l + 7) (fix_goes_on c s o at g end)
+p_fix_goes_on c b k l s o at g None i a z h = raised c b b k k l (l + 7) _ (omega arith) (omega arith) (omega arith) (p_turns c b k l s o (session.Fixing g) a h)
+p_fix_goes_on c b k l s o at g (Some end) i a z h =
+    let t = turns_session s o (session.Fixing g) in
+    let u = forgets t o in
+    let p = p_forgets c b k l t o (p_turns c b k l s o (session.Fixing g) a h) in
+    let kind : IsKind (own c (clears u o) o) (owner_at u o).kind = subst (λ (m : ℕ). IsKind (place_service c (m - 1)) (owner_at u o).kind) (sym (clears_stage u o)) (p.owner o).kind in
+    subst (λ x. Simple c b k (l + 7) (fix_ends c u o at x)) (sym (h.owner o).left) (p_cleared c b k l (clears u o) o at (owner_at u o).kind i kind z (p_clears c b k l u o p))
 
 -- an owner hears the reply of a current exchange
-p_hears : (c : Config) (b k l : ℕ) (s : State) (o slot : ℕ) (at : Reading) (r : Reply) (x : Session) → IsBuilt c → body_number (body.Reply r) ≤ b → IsUnder b x → (is_reading x ≡ true → 0 < position_at s.stages ((owner_at s o).stage - 1)) → 0 < o → Simple b k l s → Simple (suc b) k (l + 3) (owner_hears c s o slot at r x)
-p_hears c b k l s o slot at r (session.Register f) i n u p z h =
+p_hears : (c : Config) (b k l : ℕ) (s : State) (o slot : ℕ) (at : Reading) (r : Reply) (x : Session) → IsBuilt c → body_number (body.Reply r) ≤ b → IsUnder b (own c s o) x → 0 < o → Simple c b k l s → Simple c (suc b) k (l + 7) (owner_hears c s o slot at r x)
+p_hears c b k l s o slot at r (session.Register f) i n u z h =
     let from = slot_replica slot in
     let g = session_after f from r in
-    p_goes_on c b k l s o g (opens_round f.phase g.phase) (phase_end g.phase) i (call_after b f from r n u) (λ e. p (ap is_read_work (sym (after_work f from r)) ∙ e)) (λ e. opened_store b f from r n u e) z h
-p_hears c b k l s o slot at r session.Idle i n u p z h = raised b (suc b) k k l (l + 3) s (omega arith) (omega arith) (omega arith) h
-p_hears c b k l s o slot at r (session.Fixing f) i n u p z h = absurd u
-p_hears c b k l s o slot at r (session.Transaction t) i n u p z h = absurd u
-p_hears c b k l s o slot at r (session.Snapshot t) i n u p z h = absurd u
-p_hears c b k l s o slot at r (session.Settling attempt shards) i n u p z h = absurd u
+    p_goes_on c (suc b) k l s o g (opens_round f.phase g.phase) (phase_end g.phase) refl (call_after b (own c s o) f from r n u) z
+    (raised c b (suc b) k k l l s (omega arith) (omega arith) (omega arith) h)
+p_hears c b k l s o slot at r (session.Fixing f) i n u z h =
+    let from = slot_replica slot in
+    let g = session_after f from r in
+    raised c b (suc b) k k (l + 7) (l + 7) _ (omega arith) (omega arith) (omega arith)
+    (p_fix_goes_on c b k l s o at g (phase_end g.phase) i (fix_after b f from r n u) z h)
+p_hears c b k l s o slot at r session.Idle i n u z h = raised c b (suc b) k k l (l + 7) s (omega arith) (omega arith) (omega arith) h
+p_hears c b k l s o slot at r (session.Transaction t) i n u z h = absurd u
+p_hears c b k l s o slot at r (session.Snapshot t) i n u z h = absurd u
+p_hears c b k l s o slot at r (session.Settling attempt shards) i n u z h = absurd u
 
-p_reply : (c : Config) (b k l : ℕ) (s : State) (o : ℕ) (at : Reading) (r : Reply) (slot : Option ℕ) → IsBuilt c → body_number (body.Reply r) ≤ b → 0 < o → Simple b k l s → Simple (suc b) k (l + 3) (reply_comes c s o at r slot)
-p_reply c b k l s o at r None i n z h = raised b (suc b) k k l (l + 3) s (omega arith) (omega arith) (omega arith) h
+p_reply : (c : Config) (b k l : ℕ) (s : State) (o : ℕ) (at : Reading) (r : Reply) (slot : Option ℕ) → IsBuilt c → body_number (body.Reply r) ≤ b → 0 < o → Simple c b k l s → Simple c (suc b) k (l + 7) (reply_comes c s o at r slot)
+p_reply c b k l s o at r None i n z h = raised c b (suc b) k k l (l + 7) s (omega arith) (omega arith) (omega arith) h
 p_reply c b k l s o at r (Some slot) i n z h =
-    let w = h.owner o in
-    p_hears c b k l (listens s o slot) o slot at r (owner_at s o).session i n w.under
-    (λ e. subst (λ (m : ℕ). 0 < position_at s.stages (m - 1)) (sym (listens_stage s o slot)) (w.past e)) z (p_listens b k l s o slot h)
+    p_hears c b k l (listens s o slot) o slot at r (owner_at s o).session i n
+    (subst (λ (m : ℕ). IsUnder b (place_service c (m - 1)) (owner_at s o).session) (sym (listens_stage s o slot)) (h.owner o).under) z (p_listens c b k l s o slot h)
 
 -- a request comes to its target
-p_request : (b k l : ℕ) (s : State) (m o : ℕ) (at : Reading) (r : Request) (target : Target) → 0 < m → m < length s.net → is_built_target target ≡ true → is_call_request r ≡ true → body_number (body.Request r) ≤ b → Simple b k l s → Simple (suc b) k (l + 3) (request_comes s m o at target r)
-p_request b k l s m o at r (Shard shard) z j t c n h = absurd (false≢true t)
-p_request b k l s m o at r (Replica service replica) z j t c n h = raised b (suc b) k k (suc l) (l + 3) _ (omega arith) (omega arith) (omega arith) (p_serves b k l s m o service replica r z j c n h)
+p_request : (c : Config) (b k l : ℕ) (s : State) (m o : ℕ) (at : Reading) (r : Request) (target : Target) → 0 < m → m < length s.net → is_replica target ≡ true → IsRequest b r → Simple c b k l s → Simple c (suc b) k (l + 7) (request_comes s m o at target r)
+p_request c b k l s m o at r (Shard shard) z j t n h = absurd (false≢true t)
+p_request c b k l s m o at r (Replica service replica) z j t n h = raised c b (suc b) k k (suc l) (l + 7) _ (omega arith) (omega arith) (omega arith) (p_serves c b k l s m o service replica r z j n h)
 
-p_comes : (c : Config) (b k l : ℕ) (s : State) (m : ℕ) (at : Reading) (e : Envelope) (x : Body) → IsBuilt c → 0 < m → m < length s.net → is_built_target e.target ≡ true → is_call_body x ≡ true → body_number x ≤ b → 0 < e.owner → Simple b k l s → Simple (suc b) k (l + 3) (comes c s m at e x)
-p_comes c b k l s m at e (body.Request r) i z j t a n w h = p_request b k l s m e.owner at r e.target z j t a n h
-p_comes c b k l s m at e (body.Reply r) i z j t a n w h = p_reply c b k l s e.owner at r (slot_in (owner_at s e.owner).currents e.exchange) i n w h
+p_comes : (c : Config) (b k l : ℕ) (s : State) (m : ℕ) (at : Reading) (e : Envelope) (x : Body) → IsBuilt c → 0 < m → m < length s.net → is_replica e.target ≡ true → IsBody b x → 0 < e.owner → Simple c b k l s → Simple c (suc b) k (l + 7) (comes c s m at e x)
+p_comes c b k l s m at e (body.Request r) i z j t n w h = p_request c b k l s m e.owner at r e.target z j t n h
+p_comes c b k l s m at e (body.Reply r) i z j t n w h = p_reply c b k l s e.owner at r (slot_in (owner_at s e.owner).currents e.exchange) i n w h
 
--- a message that was sent is delivered
-pub p_go : (c : Config) (b k l : ℕ) (s : State) (m : ℕ) (at : Reading) → IsBuilt c → 0 < m → m < length s.net → Simple b k l s → Simple (suc b) k (l + 3) (comes c (marks_message s m fate.Delivered) m at (message_at s.net m).envelope (message_at s.net m).body)
-p_go c b k l s m at i z j h =
-    let x = h.message m in
-    p_comes c b k l (marks_message s m fate.Delivered) m at (message_at s.net m).envelope (message_at s.net m).body i z (grind (arith, looks, j)) (h.target m z j) x.call x.told (h.owned m z j) (p_fate b k l s m fate.Delivered h)
+-- a message that was sent is delivered, for the first time or once more
+pub p_delivers : (c : Config) (b k l : ℕ) (s : State) (m : ℕ) (at : Reading) (f : Fate) → IsBuilt c → 0 < m → m < length s.net → Simple c b k l s → Simple c (suc b) k (l + 7) (comes c (marks_message s m f) m at (message_at s.net m).envelope (message_at s.net m).body)
+p_delivers c b k l s m at f i z j h =
+    p_comes c b k l (marks_message s m f) m at (message_at s.net m).envelope (message_at s.net m).body i z (grind (arith, looks, j)) (h.target m z j) (h.message m) (h.owned m z j) (p_fate c b k l s m f h)

@@ -1,7 +1,11 @@
 pub mod Scripts
 pub mod Simple
 pub mod Moves
+pub mod Serves
 pub mod Sessions
+pub mod Launches
 pub mod Acts
+pub mod Ends
 pub mod Comes
+pub mod Losses
 pub mod BuiltRuns

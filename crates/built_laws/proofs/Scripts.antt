@@ -1,143 +1,95 @@
--- What a file that is built runs: which statement stands at a place, and how many replicas are asked.
-use Rattle.std.proofs.Common.{◌≡◌, ℕ, ◌-◌, ◌≤◌, true, List, [], ◌∷◌, length, get_or, refl, ap, sym, ◌∙◌, subst, arith}
-use Rattle.std.proofs.lemmas.Bool.{and_parts, eqb-true, false≢true}
-use Rattle.std.specs.Prelude.{zero, suc, ◌&&◌, if◌then◌else◌}
-use Rattle.std.proofs.lemmas.List.{length-replicate}
+-- What a file that is built runs: which statements stand in its scripts, how many replicas are asked, how
+-- many stages there are, and that none is spawned.
+use Rattle.std.proofs.Common.{◌≡◌, ℕ, ◌-◌, ◌≤◌, Bool, true, false, List, [], ◌∷◌, length, get_or, refl, ap, ◌∙◌, arith}
+use Rattle.std.proofs.lemmas.Bool.{and_parts, cond_both, eqb-true, eq-eqb, leb-true, false≢true}
+use Rattle.std.specs.Prelude.{zero, suc, ◌||◌}
+use Rattle.std.specs.List.{list_all, list_any}
 use Rattle.rss_names.specs.declared.service.Key.{Key}
 use Rattle.rss_names.specs.declared.service.ServiceId.{ServiceId}
 use Rattle.rss_names.specs.declared.service.ServiceId.TheVariants.{Txn, Reg}
-use Rattle.rss_names.specs.Services.{same_service, same_key}
+use Rattle.rss_names.specs.Services.{same_service}
 use Rattle.pipeline_lang.specs.declared.config.Config.{Config}
 use Rattle.pipeline_lang.specs.declared.config.Body.{Body}
 use Rattle.pipeline_lang.specs.declared.config.ServiceDef.{ServiceDef}
 use Rattle.pipeline_lang.specs.declared.script.Statement.{Statement}
 use Rattle.pipeline_lang.specs.declared.script.Statement.TheVariants as statement
-use Rattle.pipeline_lang.specs.declared.script.Expr.TheVariants as expr
-use Rattle.pipeline_lang.specs.declared.script.Term.TheVariants as term
 use Rattle.pipeline_lang.specs.Config.{statement_at, no_body, replicas_of, replicas_among}
-use Rattle.rss_wire.specs.declared.messages.RegReply.{RegReply}
-use Rattle.rss_machine.specs.State.{replicas_before, opening_replicas, replicas_of_services}
-use Rattle.rss_machine.specs.Built.{built_service, built_replicas, is_built_script, are_built_bodies, are_built_services, is_built}
+use Rattle.rss_model.specs.Scripts.{is_spawned, spawns}
+use Rattle.rss_machine.specs.Built.{service_of_script, is_register_service, is_built_statement, is_built_script, has_few_replicas, is_built}
 
--- services that are the same are equal
+-- services that are the same are equal, and a service is the same as itself
 pub service_is : (a b : ServiceId) → same_service a b ≡ true → a ≡ b
 service_is (Txn m) (Txn n) e = ap Txn (eqb-true m n e)
 service_is (Reg m) (Reg n) e = ap Reg (eqb-true m n e)
 service_is (Txn m) (Reg n) e = absurd (false≢true e)
 service_is (Reg m) (Txn n) e = absurd (false≢true e)
 
--- a script that is built
-data Scripted : List (Statement ℕ Key ℕ ℕ) → Type 0 where
-  scripted : (key read_key : Key) (value variable : ℕ) → key.service ≡ built_service → read_key.service ≡ built_service → Scripted (statement.Write key (expr.One (term.Number value)) ∷ statement.Read variable read_key ∷ [])
+pub same_itself : (a : ServiceId) → same_service a a ≡ true
+same_itself (Txn n) = eq-eqb n n refl
+same_itself (Reg n) = eq-eqb n n refl
 
-same_keys : (key read_key : Key) (value variable : ℕ) → is_built_script (statement.Write key (expr.One (term.Number value)) ∷ statement.Read variable read_key ∷ []) ≡ true → (key.service ≡ built_service) × (read_key.service ≡ built_service)
-same_keys key read_key value variable e =
-    let p = and_parts (same_key key read_key) (same_service key.service built_service) e in
-    let q = and_parts (same_service key.service read_key.service) _ p.0 in
-    let a = service_is key.service built_service p.1 in
-    (a, sym (service_is key.service read_key.service q.0) ∙ a)
+-- the service that the stage at a place uses
+abbrev pub place_service : Config → ℕ → ServiceId
+place_service c place = service_of_script (get_or c.bodies place no_body).script
 
-script_shape : (script : List (Statement ℕ Key ℕ ℕ)) → is_built_script script ≡ true → Scripted script
-script_shape (statement.Write key (expr.One (term.Number value)) ∷ statement.Read variable read_key ∷ []) e = let p = same_keys key read_key value variable e in scripted key read_key value variable p.0 p.1
-script_shape [] e = absurd (false≢true e)
-script_shape ((statement.Let variable value) ∷ rest) e = absurd (false≢true e)
-script_shape ((statement.Snap pairs) ∷ rest) e = absurd (false≢true e)
-script_shape ((statement.Txn reads guard writes) ∷ rest) e = absurd (false≢true e)
-script_shape ((statement.Spawn child) ∷ rest) e = absurd (false≢true e)
-script_shape ((statement.Wait child) ∷ rest) e = absurd (false≢true e)
-script_shape ((statement.Put pipe value) ∷ rest) e = absurd (false≢true e)
-script_shape ((statement.Take variable pipe) ∷ rest) e = absurd (false≢true e)
-script_shape ((statement.Close pipe) ∷ rest) e = absurd (false≢true e)
-script_shape (statement.Fence ∷ rest) e = absurd (false≢true e)
-script_shape ((statement.Repeat times) ∷ rest) e = absurd (false≢true e)
-script_shape ((statement.When test) ∷ rest) e = absurd (false≢true e)
-script_shape (statement.End ∷ rest) e = absurd (false≢true e)
-script_shape (statement.Exit ∷ rest) e = absurd (false≢true e)
-script_shape ((statement.Read variable key) ∷ rest) e = absurd (false≢true e)
-script_shape (statement.Write key (expr.One (term.Variable variable)) ∷ rest) e = absurd (false≢true e)
-script_shape (statement.Write key (expr.Plus a b) ∷ rest) e = absurd (false≢true e)
-script_shape (statement.Write key (expr.Minus a b) ∷ rest) e = absurd (false≢true e)
-script_shape (statement.Write key (expr.One (term.Number value)) ∷ []) e = absurd (false≢true e)
-script_shape (statement.Write key (expr.One (term.Number value)) ∷ (statement.Let next_variable next_value) ∷ rest) e = absurd (false≢true e)
-script_shape (statement.Write key (expr.One (term.Number value)) ∷ (statement.Snap next_pairs) ∷ rest) e = absurd (false≢true e)
-script_shape (statement.Write key (expr.One (term.Number value)) ∷ (statement.Txn next_reads next_guard next_writes) ∷ rest) e = absurd (false≢true e)
-script_shape (statement.Write key (expr.One (term.Number value)) ∷ (statement.Spawn next_child) ∷ rest) e = absurd (false≢true e)
-script_shape (statement.Write key (expr.One (term.Number value)) ∷ (statement.Wait next_child) ∷ rest) e = absurd (false≢true e)
-script_shape (statement.Write key (expr.One (term.Number value)) ∷ (statement.Put next_pipe next_value) ∷ rest) e = absurd (false≢true e)
-script_shape (statement.Write key (expr.One (term.Number value)) ∷ (statement.Take next_variable next_pipe) ∷ rest) e = absurd (false≢true e)
-script_shape (statement.Write key (expr.One (term.Number value)) ∷ (statement.Close next_pipe) ∷ rest) e = absurd (false≢true e)
-script_shape (statement.Write key (expr.One (term.Number value)) ∷ statement.Fence ∷ rest) e = absurd (false≢true e)
-script_shape (statement.Write key (expr.One (term.Number value)) ∷ (statement.Repeat next_times) ∷ rest) e = absurd (false≢true e)
-script_shape (statement.Write key (expr.One (term.Number value)) ∷ (statement.When next_test) ∷ rest) e = absurd (false≢true e)
-script_shape (statement.Write key (expr.One (term.Number value)) ∷ statement.End ∷ rest) e = absurd (false≢true e)
-script_shape (statement.Write key (expr.One (term.Number value)) ∷ statement.Exit ∷ rest) e = absurd (false≢true e)
-script_shape (statement.Write key (expr.One (term.Number value)) ∷ (statement.Write other formula) ∷ rest) e = absurd (false≢true e)
-script_shape (statement.Write key (expr.One (term.Number value)) ∷ statement.Read variable read_key ∷ more ∷ rest) e = absurd (false≢true e)
+-- what passes with each element of a list passes with the one at a place
+all_place : {X : Type 0} (p : X → Bool) (xs : List X) (i : ℕ) (d : X) → p d ≡ true → list_all p xs ≡ true → p (get_or xs i d) ≡ true
+all_place p [] i d h e = h
+all_place p (x ∷ xs) zero d h e = (and_parts (p x) (list_all p xs) e).0
+all_place p (x ∷ xs) (suc i) d h e = all_place p xs i d h (and_parts (p x) (list_all p xs) e).1
 
--- which statement of a stage stands at a place
-pub data Stands (place position : ℕ) : Statement ℕ Key ℕ ℕ → Type 0 where
-  writes : (key : Key) (value : ℕ) → position ≡ 0 → key.service ≡ built_service → Stands place position (statement.Write key (expr.One (term.Number value)))
-  reads : (variable : ℕ) (key : Key) → position ≡ 1 → key.service ≡ built_service → Stands place position (statement.Read variable key)
-  exits : (place ≡ 0 → 2 ≤ position) → Stands place position statement.Exit
+script_runs : (script : List (Statement ℕ Key ℕ ℕ)) (position : ℕ) → is_built_script script ≡ true → is_built_statement (service_of_script script) (get_or script position statement.Exit) ≡ true
+script_runs script position e = all_place (is_built_statement (service_of_script script)) script position statement.Exit refl (and_parts (is_register_service (service_of_script script)) (list_all (is_built_statement (service_of_script script)) script) e).1
 
-script_stands : (script : List (Statement ℕ Key ℕ ℕ)) → Scripted script → (position : ℕ) → Stands 0 position (get_or script position statement.Exit)
-script_stands _ (scripted key read_key value variable a b) zero = writes key value refl a
-script_stands _ (scripted key read_key value variable a b) (suc zero) = reads variable read_key refl b
-script_stands _ (scripted key read_key value variable a b) (suc (suc more)) = exits (λ z. omega arith)
+few_replicas : (id : ServiceId) (services : List ServiceDef) → list_all has_few_replicas services ≡ true → replicas_among id services ≤ 7
+few_replicas id [] e = omega arith
+few_replicas id (d ∷ ds) e =
+    let p = and_parts (has_few_replicas d) (list_all has_few_replicas ds) e in
+    cond_both (same_service id d.id) d.replicas (replicas_among id ds) (λ (n : ℕ). n ≤ 7) (λ t. leb-true d.replicas 7 p.0) (λ f. few_replicas id ds p.1)
 
-body_stands : (bodies : List Body) → are_built_bodies bodies ≡ true → (place position : ℕ) → Stands place position (get_or (get_or bodies place no_body).script position statement.Exit)
-body_stands [] e place position = absurd (false≢true e)
-body_stands (body ∷ more ∷ rest) e place position = absurd (false≢true e)
-body_stands (body ∷ []) e zero position = script_stands body.script (script_shape body.script e) position
-body_stands (body ∷ []) e (suc place) position = exits (λ z. absurd (omega (arith, z)))
+-- no script that is built spawns a stage
+spawns_none : (service : ServiceId) (n : ℕ) (x : Statement ℕ Key ℕ ℕ) → is_built_statement service x ≡ true → spawns n x ≡ false
+spawns_none service n (statement.Let variable value) e = refl
+spawns_none service n (statement.Read variable key) e = refl
+spawns_none service n (statement.Write key value) e = refl
+spawns_none service n statement.Exit e = refl
+spawns_none service n (statement.Snap pairs) e = refl
+spawns_none service n (statement.Txn reads guard writes) e = refl
+spawns_none service n (statement.Spawn child) e = absurd (false≢true e)
+spawns_none service n (statement.Wait child) e = refl
+spawns_none service n (statement.Put p value) e = refl
+spawns_none service n (statement.Take variable p) e = refl
+spawns_none service n (statement.Close p) e = refl
+spawns_none service n statement.Fence e = refl
+spawns_none service n (statement.Repeat times) e = refl
+spawns_none service n (statement.When test) e = refl
+spawns_none service n statement.End e = refl
 
-one_body : (bodies : List Body) → are_built_bodies bodies ≡ true → length bodies ≡ 1
-one_body [] e = absurd (false≢true e)
-one_body (body ∷ []) e = refl
-one_body (body ∷ more ∷ rest) e = absurd (false≢true e)
+-- what fails with each element of a list fails with any
+none_any : {X : Type 0} (p q : X → Bool) (xs : List X) → ((x : X) → p x ≡ true → q x ≡ false) → list_all p xs ≡ true → list_any q xs ≡ false
+none_any p q [] h e = refl
+none_any p q (x ∷ xs) h e =
+    let r = and_parts (p x) (list_all p xs) e in
+    ap (λ (t : Bool). t || list_any q xs) (h x r.0) ∙ none_any p q xs h r.1
 
-three_replicas : (services : List ServiceDef) → are_built_services services ≡ true → replicas_among built_service services ≡ built_replicas
-three_replicas [] e = absurd (false≢true e)
-three_replicas (a ∷ []) e = absurd (false≢true e)
-three_replicas (txn ∷ reg ∷ more ∷ rest) e = absurd (false≢true e)
-three_replicas (txn ∷ reg ∷ []) e =
-    let p = and_parts (same_service txn.id (Txn 1) && same_service reg.id built_service) _ e in
-    let q = and_parts (same_service txn.id (Txn 1)) (same_service reg.id built_service) p.0 in
-    let a = service_is txn.id (Txn 1) q.0 in
-    let b = service_is reg.id built_service q.1 in
-    let n = eqb-true reg.replicas built_replicas p.1 in
-    subst (λ (x : ServiceId). (if same_service built_service x then txn.replicas else (if same_service built_service reg.id then reg.replicas else 0)) ≡ built_replicas) (sym a)
-    (subst (λ (x : ServiceId). (if same_service built_service x then reg.replicas else 0) ≡ built_replicas) (sym b) n)
-
--- the replicas of the service before the first step
-started : (registers : ℕ) (id : ServiceId) (n : ℕ) (rest : List (List (List RegReply))) → id ≡ built_service → length (get_or (replicas_before id (opening_replicas registers n) rest) 0 []) ≡ n
-started registers id n rest e = rw e (grind (arith, length-replicate))
-
-passed : (id : ServiceId) (replicas : List (List RegReply)) (rest : List (List (List RegReply))) → id ≡ Txn 1 → replicas_before id replicas rest ≡ rest
-passed id replicas rest e = rw e refl
-
-three_started : (services : List ServiceDef) → are_built_services services ≡ true → (registers : ℕ) → length (get_or (replicas_of_services registers services) 0 []) ≡ built_replicas
-three_started [] e registers = absurd (false≢true e)
-three_started (a ∷ []) e registers = absurd (false≢true e)
-three_started (txn ∷ reg ∷ more ∷ rest) e registers = absurd (false≢true e)
-three_started (txn ∷ reg ∷ []) e registers =
-    let p = and_parts (same_service txn.id (Txn 1) && same_service reg.id built_service) _ e in
-    let q = and_parts (same_service txn.id (Txn 1)) (same_service reg.id built_service) p.0 in
-    ap (λ (l : List (List (List RegReply))). length (get_or l 0 [])) (passed txn.id (opening_replicas registers txn.replicas) (replicas_of_services registers (reg ∷ [])) (service_is txn.id (Txn 1) q.0))
-    ∙ started registers reg.id reg.replicas [] (service_is reg.id built_service q.1)
-    ∙ eqb-true reg.replicas built_replicas p.1
+script_spawns : (n : ℕ) (script : List (Statement ℕ Key ℕ ℕ)) → is_built_script script ≡ true → list_any (spawns n) script ≡ false
+script_spawns n script e = none_any (is_built_statement (service_of_script script)) (spawns n) script (spawns_none (service_of_script script) n) (and_parts (is_register_service (service_of_script script)) (list_all (is_built_statement (service_of_script script)) script) e).1
 
 -- what a file that is built is
 pub record IsBuilt (c : Config) : Type 0 where
-  pub stands : (n position : ℕ) → Stands (n - 1) position (statement_at c n position)
-  pub one : length c.bodies ≡ 1
-  pub replicas : replicas_of c built_service ≡ built_replicas
-  pub three : (registers : ℕ) → length (get_or (replicas_of_services registers c.services) 0 []) ≡ built_replicas
+  pub stands : (n position : ℕ) → is_built_statement (place_service c (n - 1)) (statement_at c n position) ≡ true
+  pub few : (service : ServiceId) → replicas_of c service ≤ 7
+  pub stages : length c.bodies ≤ 16
+  pub spawned : (n : ℕ) → is_spawned c n ≡ false
 
 pub built_is : (c : Config) → is_built c ≡ true → IsBuilt c
 built_is c e =
     let p = and_parts _ _ e in
     let q = and_parts _ _ p.0 in
-    let r = and_parts _ _ q.0 in
-    let s = and_parts (are_built_bodies c.bodies) (are_built_services c.services) r.0 in
-    record { stands = λ n position. body_stands c.bodies s.0 (n - 1) position; one = one_body c.bodies s.0; replicas = three_replicas c.services s.1; three = three_started c.services s.1 }
+    let r = and_parts (list_all (λ (body : Body). is_built_script body.script) c.bodies) _ q.0 in
+    record {
+      stands = λ n position. script_runs (get_or c.bodies (n - 1) no_body).script position (all_place (λ (body : Body). is_built_script body.script) c.bodies (n - 1) no_body refl r.0);
+      few = λ service. few_replicas service c.services q.1;
+      stages = leb-true (length c.bodies) 16 r.1;
+      spawned = λ n. none_any (λ (body : Body). is_built_script body.script) (λ (body : Body). list_any (spawns n) body.script) c.bodies (λ body. script_spawns n body.script) r.0;
+    }

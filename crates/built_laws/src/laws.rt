@@ -11,9 +11,12 @@ ghost use Rattle.rss_machine.specs.declared.step.Step.{Step};
 ghost use Rattle.built_laws.specs.Ready.{IsReady};
 
 /// Every state of a run of a file that is built, of steps of kinds that run, meets what the code of its
-/// steps needs: a stage that is to begin a call keeps no dependency, messages are between calls and
-/// replicas of the register service, no stamp has a number above that of the steps, and there are few
-/// owners and messages.
+/// steps needs: a stage that is to begin a call owes no fence before it, and depends on registers of the
+/// call's own service alone; messages are between owners and replicas, and their requests are those of
+/// register calls, of which a round of dependencies stores one at most; the owner of a stage has a number
+/// from 1; the work of a round of dependencies is to store them; no stamp that was told or heard has a
+/// number above that of the steps; no owner has lost more messages of a target than there are steps; and
+/// there are sixteen stages at most, and few acts, owners and messages.
 pub fn built_runs_are_ready()
     ensures { (c : Config) (steps : List Step) (s : State) →
         is_built c ≡ true → list_all (λ (step : Step). is_built_step step.kind) steps ≡ true →

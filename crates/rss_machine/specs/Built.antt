@@ -4,14 +4,13 @@ use Rattle.truetime.specs.TrueMoment.{admits}
 use Rattle.rss_names.specs.declared.service.Key.{Key}
 use Rattle.rss_names.specs.declared.service.ServiceId.{ServiceId}
 use Rattle.rss_names.specs.declared.service.ServiceId.TheVariants.{Txn, Reg}
-use Rattle.rss_names.specs.Services.{same_service, same_key}
+use Rattle.std.specs.List.{list_all}
+use Rattle.rss_names.specs.Services.{same_service}
 use Rattle.pipeline_lang.specs.declared.config.Config.{Config}
 use Rattle.pipeline_lang.specs.declared.config.Body.{Body}
 use Rattle.pipeline_lang.specs.declared.config.ServiceDef.{ServiceDef}
 use Rattle.pipeline_lang.specs.declared.script.Statement.{Statement}
-use Rattle.pipeline_lang.specs.declared.script.Statement.TheVariants.{Read, Write}
-use Rattle.pipeline_lang.specs.declared.script.Expr.TheVariants.{One}
-use Rattle.pipeline_lang.specs.declared.script.Term.TheVariants.{Number}
+use Rattle.pipeline_lang.specs.declared.script.Statement.TheVariants.{Let, Read, Write, Exit}
 use Rattle.rss_machine.specs.Refusal.{kind_refusal}
 use Rattle.rss_machine.specs.State.{State}
 use Rattle.rss_machine.specs.declared.step.Step.{Step}
@@ -20,42 +19,46 @@ use Rattle.rss_machine.specs.declared.step.StepKind.TheVariants.{Act, Go, Lose, 
 use Rattle.rss_machine.specs.declared.step.StepRefusal.{StepRefusal}
 use Rattle.rss_machine.specs.declared.step.StepRefusal.TheVariants.{LogFull, Reading as Untimely, NotBuilt}
 
--- the service that is built: the register service that every file has
-abbrev pub built_service : ServiceId
-built_service = Reg 1
+-- whether a service is a register service
+abbrev pub is_register_service : ServiceId → Bool
+is_register_service (Reg number) = true
+is_register_service (Txn number) = false
 
--- the number of its replicas that is built
-abbrev pub built_replicas : ℕ
-built_replicas = 3
+-- the register service that a script uses: that of the first register that it reads or writes
+abbrev pub service_of_script : List (Statement ℕ Key ℕ ℕ) → ServiceId
+service_of_script [] = Reg 1
+service_of_script (Read variable key ∷ statements) = key.service
+service_of_script (Write key value ∷ statements) = key.service
+service_of_script (_ ∷ statements) = service_of_script statements
 
--- a script of exactly one write of a number and then one read of the same register
+-- whether a statement runs in a script that uses this service
+abbrev pub is_built_statement : ServiceId → Statement ℕ Key ℕ ℕ → Bool
+is_built_statement service (Let variable value) = true
+is_built_statement service (Read variable key) = same_service key.service service
+is_built_statement service (Write key value) = same_service key.service service
+is_built_statement service Exit = true
+is_built_statement service _ = false
+
+-- whether a script runs: it sets variables, and reads and writes registers of one service
 abbrev pub is_built_script : List (Statement ℕ Key ℕ ℕ) → Bool
-is_built_script (Write key (One (Number value)) ∷ Read variable read_key ∷ []) =
-    same_key key read_key && same_service key.service built_service
-is_built_script _ = false
+is_built_script script =
+    is_register_service (service_of_script script) && list_all (is_built_statement (service_of_script script)) script
 
--- exactly one stage
-abbrev pub are_built_bodies : List Body → Bool
-are_built_bodies (body ∷ []) = is_built_script body.script
-are_built_bodies _ = false
+-- whether a service has as many replicas as a round can hear; in a valid file each has
+abbrev pub has_few_replicas : ServiceDef → Bool
+has_few_replicas d = nat_le d.replicas 7
 
--- the two services that every file has, and no further one
-abbrev pub are_built_services : List ServiceDef → Bool
-are_built_services (txn ∷ reg ∷ []) =
-    same_service txn.id (Txn 1) && same_service reg.id built_service && (reg.replicas == built_replicas)
-are_built_services _ = false
-
--- whether a file runs; a valid file has at least one try, and pipes between two stages alone
+-- whether a file runs: its scripts do, and it has no pipe; a valid file has sixteen stages at most
 abbrev pub is_built : Config → Bool
 is_built c =
-    are_built_bodies c.bodies && are_built_services c.services && (length c.shard_services == 0) && (length c.pipe_ends == 0) && nat_le 1 c.tries
+    list_all (λ (body : Body). is_built_script body.script) c.bodies && nat_le (length c.bodies) 16 && list_all has_few_replicas c.services && (length c.pipe_ends == 0)
 
 -- whether steps of this kind run
 abbrev pub is_built_step : StepKind → Bool
 is_built_step (Act stage) = true
 is_built_step (Go message) = true
-is_built_step (Lose message) = false
-is_built_step (Again message) = false
+is_built_step (Lose message) = true
+is_built_step (Again message) = true
 is_built_step (Kill stage) = false
 is_built_step (Stub stage) = false
 
