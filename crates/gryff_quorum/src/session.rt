@@ -1,10 +1,13 @@
-//! A register session: the rounds of a register call.
+//! A register session: the rounds of a register call, or a round of dependencies.
 
-ghost use Rattle.std.specs.Prelude.{◌≡◌, ◌+◌, ◌<◌, ◌≤◌, [], ◌++◌, length, IsSome, OnOk, if◌then◌else◌};
+ghost use Rattle.std.specs.Prelude.{◌≡◌, ◌+◌, ◌<◌, ◌≤◌, [], ◌++◌, length, false, Some, OnOk, if◌then◌else◌};
 ghost use Rattle.rss_tables.specs.Round.{cuts, hears, is_lost, is_agreed, greatest_heard};
-ghost use Rattle.rss_tables.specs.RegisterSession.{opening_session, reply_cell as cell_of, first_phase as phase_of, phase_request, requests_from, round_requests, read_end as end_of_read, found_cell, work_key, session_after, session_sends, goes_on, phase_progress, phase_end, reached as after_majority};
+ghost use Rattle.rss_tables.specs.RegisterSession.{opening_session, reply_cell as cell_of, first_phase as phase_of, phase_request, requests_from, round_requests, read_end as end_of_read, found_cell, session_after, session_sends, goes_on, phase_progress, phase_end, reached as after_majority};
+ghost use Rattle.rss_wire.specs.declared.messages.Request.TheVariants.{Fix};
 ghost use Rattle.gryff_quorum.specs.Heard.{HasSmallStamps};
+ghost use Rattle.gryff_quorum.specs.Spare.{HasLists, lists_sent, sends_lists};
 
+use crate::dep_lists::DepLists;
 use crate::round::Round;
 use carstamps::Carstamp;
 use causal_context::Dep;
@@ -24,8 +27,8 @@ const OPENING: RegReply = RegReply {
 /// The greatest number of replicas of a service, so of requests that a session sends in one step.
 const MOST_REPLICAS: usize = 7;
 
-/// The rounds of a read or a write over the replicas of one register service. Contracts see it as
-/// the tables' session.
+/// The rounds of a read, of a write, or of dependencies over the replicas of one register service.
+/// Contracts see it as the tables' session.
 #[derive(Debug, Drop)]
 pub struct RegSession {
     call: u32,
@@ -36,20 +39,20 @@ pub struct RegSession {
 }
 
 impl Model for RegSession {
-    ghost use Rattle.std.specs.Prelude.{◌≤◌, IsSome};
-    ghost use Rattle.rss_tables.specs.RegisterSession.{RegSession as SessionView, work_key};
+    ghost use Rattle.std.specs.Prelude.{◌≤◌};
+    ghost use Rattle.rss_tables.specs.RegisterSession.{RegSession as SessionView};
 
     ghost Value = { SessionView };
 
     ghost view = { λ s.
         record { call = s.call; work = s.work; service = s.service; round = s.round; phase = s.phase } };
 
-    ghost invariant = { λ s. (s.round.replicas ≤ 7) × IsSome (work_key s.work) };
+    ghost invariant = { λ s. s.round.replicas ≤ 7 };
 }
 
 impl RegSession {
-    /// The session of a read or a write of this call, over the replicas of a service, of which those
-    /// are left out that are cut off, replica number r at place r - 1. Nothing is sent yet.
+    /// The session of a work of this call, over the replicas of a service, of which those are left out
+    /// that are cut off, replica number r at place r - 1. Nothing is sent yet.
     pub fn new(
         call: u32,
         work: RegWork,
@@ -58,7 +61,6 @@ impl RegSession {
         cut: [bool; 7],
     ) -> RegSession
         requires replicas { replicas ≤ 7 }
-        requires call { IsSome (work_key work) }
         ensures { result ≡ opening_session call work service replicas cut }
     {
         let phase = first_phase(&work);
@@ -71,34 +73,52 @@ impl RegSession {
         }
     }
 
-    /// Makes room for all that the next call of `start` or `on_reply` can send.
-    pub fn make_room(&mut self, out: &mut Outbox) -> Result<(), AllocError>
+    /// Makes room for all that `start` can send. `on_reply` needs the room of the outbox alone.
+    pub fn make_room(&self, spare: &mut DepLists, out: &mut Outbox) -> Result<(), AllocError>
         ensures room { OnOk result (7 ≤ out.new.room) }
         ensures room_stays { out.old.room ≤ out.new.room }
+        ensures lists { OnOk result (HasLists spare.new self.now.work) }
         ensures same { out.new.requests ≡ out.old.requests }
-        ensures unchanged { self.new ≡ self.old }
     {
-        out.make_room(MOST_REPLICAS)
+        out.make_room(MOST_REPLICAS)?;
+        match &self.work {
+            RegWork::Fix(deps) => spare.make_room(MOST_REPLICAS, deps.len()),
+            RegWork::Read(_) | RegWork::Write(_, _) => Ok(()),
+        }
     }
 
-    /// Sends the requests of the round under way: called once, before any reply. Takes no memory.
-    pub fn start(&mut self, out: &mut Outbox)
+    /// Sends the requests of the round under way: called once, before any reply. A round of
+    /// dependencies takes a spare list for each request. Takes no memory.
+    #[tactic(auto, using(crate::proofs::RoundRequests::few_in_round))]
+    pub fn start(&self, spare: &mut DepLists, out: &mut Outbox)
         requires room { 7 ≤ out.old.room }
-        ensures sends { out.new.requests ≡ out.old.requests ++ round_requests self.old }
-        ensures room { out.new.room + length (round_requests self.old) ≡ out.old.room }
-        ensures unchanged { self.new ≡ self.old }
+        requires lists { HasLists spare.old self.now.work }
+        ensures sends { out.new.requests ≡ out.old.requests ++ round_requests self.now }
+        ensures room { out.new.room + length (round_requests self.now) ≡ out.old.room }
+        ensures few { length (round_requests self.now) ≤ 7 }
+        ensures lists { spare.new.count + lists_sent self.now.work (length (round_requests self.now)) ≡ spare.old.count }
+        ensures width { spare.new.width ≡ spare.old.width }
     {
-        self.send_round(out);
+        match &self.work {
+            RegWork::Fix(deps) => match self.phase {
+                RegPhase::Fixing => self.send_fixes(deps.as_slice(), spare, out),
+                RegPhase::Asking | RegPhase::Stamping | RegPhase::Storing(_) | RegPhase::Done(_) =>
+                    {}
+            },
+            RegWork::Read(_) | RegWork::Write(_, _) => self.send_round(out),
+        }
     }
 
     /// Hears a reply to a request of the round under way. Where a majority has then replied, the next
     /// round is sent, or the session is done. Takes no memory.
+    #[tactic(auto, using(crate::proofs::RoundRequests::few_sent))]
     pub fn on_reply(&mut self, from: ReplicaId, r: &Reply, out: &mut Outbox) -> Progress
         requires room { 7 ≤ out.old.room }
         requires small { HasSmallStamps (hears self.old.round from (cell_of r.now)) }
         ensures session { self.new ≡ session_after self.old from r.now }
         ensures sends { out.new.requests ≡ out.old.requests ++ session_sends self.old from r.now }
         ensures room { out.new.room + length (session_sends self.old from r.now) ≡ out.old.room }
+        ensures few { length (session_sends self.old from r.now) ≤ 7 }
         ensures progress { result ≡ phase_progress self.new.phase }
     {
         self.round.add(from, reply_cell(r));
@@ -139,6 +159,7 @@ impl RegSession {
         }
     }
 
+    /// What it does.
     pub fn work(&self) -> &RegWork
         ensures { result.now ≡ self.now.work }
     {
@@ -152,8 +173,24 @@ impl RegSession {
         self.phase
     }
 
-    // The request of the round under way.
+    /// The service whose replicas it asks.
+    pub fn service(&self) -> ServiceId
+        ensures { result ≡ self.now.service }
+    {
+        self.service
+    }
+
+    /// How many replicas the service has.
+    pub fn replicas(&self) -> u8
+        ensures exact { result ≡ self.now.round.replicas }
+        ensures most { result ≤ 7 }
+    {
+        self.round.replicas()
+    }
+
+    // The request of the round under way, where it holds no list.
     fn request(&self) -> Option<Request>
+        requires plain { sends_lists self.now.work self.now.phase ≡ false }
         ensures { result ≡ phase_request self.now.call self.now.work self.now.phase }
     {
         match (&self.work, self.phase) {
@@ -169,10 +206,11 @@ impl RegSession {
         }
     }
 
-    // Sends the request of the round under way to each replica that is not cut off, by ascending
-    // number.
+    // Sends the request of the round under way, which holds no list, to each replica that is not cut
+    // off, by ascending number.
     #[tactic(auto, using(crate::proofs::RoundRequests::round_steps))]
     fn send_round(&self, out: &mut Outbox)
+        requires plain { sends_lists self.now.work self.now.phase ≡ false }
         requires room { 7 ≤ out.old.room }
         ensures sends { out.new.requests ≡ out.old.requests ++ round_requests self.now }
         ensures room { out.new.room + length out.new.requests ≡ out.old.room + length out.old.requests }
@@ -186,6 +224,7 @@ impl RegSession {
 
     // Sends the request of the round under way to a replica that is not cut off.
     fn send_to(&self, replica: ReplicaId, out: &mut Outbox)
+        requires plain { sends_lists self.now.work self.now.phase ≡ false }
         requires room { 0 < out.old.room }
         ensures sends { out.new.requests ≡ out.old.requests
             ++ requests_from self.now.service
@@ -199,6 +238,47 @@ impl RegSession {
         if let Some(request) = self.request() {
             out.push(Target::Replica(self.service, replica), request);
         }
+    }
+
+    // Sends dependencies to each replica that is not cut off, by ascending number.
+    #[tactic(auto, using(crate::proofs::RoundRequests::round_steps))]
+    fn send_fixes(&self, deps: &[Dep], spare: &mut DepLists, out: &mut Outbox)
+        requires room { 7 ≤ out.old.room }
+        requires lists { 7 ≤ spare.old.count }
+        requires wide { length deps.now ≤ spare.old.width }
+        ensures sends { out.new.requests ≡ out.old.requests
+            ++ requests_from self.now.service (Some (Fix deps.now)) 1 self.now.round.cut self.now.round.replicas }
+        ensures room { out.new.room + length out.new.requests ≡ out.old.room + length out.old.requests }
+        ensures lists { spare.new.count + length out.new.requests ≡ spare.old.count + length out.old.requests }
+        ensures width { spare.new.width ≡ spare.old.width }
+    {
+        for at in 0..self.round.replicas() {
+            if let Some(replica) = ReplicaId::new(at + 1) {
+                self.send_fix_to(replica, deps, spare, out);
+            }
+        }
+    }
+
+    // Sends dependencies to a replica that is not cut off.
+    fn send_fix_to(&self, replica: ReplicaId, deps: &[Dep], spare: &mut DepLists, out: &mut Outbox)
+        requires room { 0 < out.old.room }
+        requires list { 0 < spare.old.count }
+        requires wide { length deps.now ≤ spare.old.width }
+        ensures sends { out.new.requests ≡ out.old.requests
+            ++ requests_from self.now.service (Some (Fix deps.now)) replica self.now.round.cut 1 }
+        ensures room { out.new.room + length out.new.requests ≡ out.old.room + length out.old.requests }
+        ensures one { out.old.room ≤ out.new.room + 1 }
+        ensures lists { spare.new.count + length out.new.requests ≡ spare.old.count + length out.old.requests }
+        ensures one_list { spare.old.count ≤ spare.new.count + 1 }
+        ensures width { spare.new.width ≡ spare.old.width }
+    {
+        if self.round.is_cut(replica) {
+            return;
+        }
+        let request = Request::Fix {
+            deps: spare.copy(deps),
+        };
+        out.push(Target::Replica(self.service, replica), request);
     }
 
     // A majority has replied: begins the next round, or ends.
