@@ -1,0 +1,12 @@
+//! What an owner does.
+
+use stage_machine::StageCall;
+
+/// What an owner does.
+#[derive(Clone, Copy, Debug, PartialEq, Eq)]
+pub enum Kind {
+    /// A call of a register.
+    Call(StageCall),
+    /// The stub of a stage that died, with no attempt to settle.
+    Stub,
+}

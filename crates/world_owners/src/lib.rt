@@ -1,0 +1,13 @@
+//! Code: an owner of messages: a register call, or a stub that has not planned its fences.
+#![tactic(auto)]
+
+mod doing;
+mod kind;
+mod owner;
+mod slots;
+#[cfg(test)]
+mod tests;
+
+pub use doing::Doing;
+pub use kind::Kind;
+pub use owner::Owner;

@@ -1,0 +1,89 @@
+//! Owners as a machine calls them.
+
+use crate::Owner;
+use gryff_quorum::RegSession;
+use register_context::RegisterContext;
+use rss_names::{Key, ReplicaId, Seq, ServiceId, StageId, Target};
+use rss_tables::{RegEnd, RegWork};
+use rss_wire::{Net, Outbox, Reply, Request};
+use stage_machine::StageCall;
+use std::alloc::AllocError;
+use std::test::Fail;
+
+const X: Key = Key {
+    service: ServiceId::Reg(1),
+    index: 0,
+};
+
+#[test]
+fn a_replica_that_is_cut_off_is_awaited_no_more(rt: HostRuntime) -> Result<(), Fail> {
+    let stage = StageId::new(1).ok_or(AllocError)?;
+    let first = ReplicaId::new(1).ok_or(AllocError)?;
+    let third = ReplicaId::new(3).ok_or(AllocError)?;
+    let mut owner = Owner::call(stage, StageCall::Read(X), RegisterContext::empty(), 4);
+    let mut net = Net::new(rt.alloc());
+    net.make_room(2)?;
+    let lost = net.ask(
+        1,
+        stage,
+        Target::Replica(X.service, first),
+        Request::Ask { key: X },
+    );
+    let other = net.ask(
+        1,
+        stage,
+        Target::Replica(X.service, third),
+        Request::Ask { key: X },
+    );
+    owner.await_reply(first, lost);
+    owner.await_reply(third, other);
+    assert_eq!(rt; owner.awaited(lost), Some(first));
+    owner.cut_off(&net, X.service, first);
+    assert_eq!(rt; owner.awaited(lost), None);
+    assert_eq!(rt; owner.awaited(other), Some(third));
+    Ok(())
+}
+
+#[test]
+fn a_target_is_cut_off_at_the_last_try(rt: HostRuntime) -> Result<(), Fail> {
+    let stage = StageId::new(1).ok_or(AllocError)?;
+    let replica = ReplicaId::new(2).ok_or(AllocError)?;
+    let mut owner = Owner::stub(stage, RegisterContext::empty(), 4);
+    assert_eq!(rt;
+        owner.count_loss(Target::Replica(X.service, replica), 2),
+        false
+    );
+    assert_eq!(rt;
+        owner.count_loss(Target::Replica(X.service, replica), 2),
+        true
+    );
+    assert_eq!(rt; owner.losses_of(Target::Replica(X.service, replica)), 2);
+    let cut = owner.cut_replicas(2, X.service);
+    assert_eq!(rt; (cut[0], cut[1], cut[2]), (false, true, false));
+    assert_eq!(rt; owner.quorum_lost(2, X.service, 3), false);
+    assert_eq!(rt; owner.quorum_lost(2, X.service, 1), true);
+    Ok(())
+}
+
+#[test]
+fn a_call_ends_its_round_of_dependencies(rt: HostRuntime) -> Result<(), Fail> {
+    let stage = StageId::new(1).ok_or(AllocError)?;
+    let replica = ReplicaId::new(1).ok_or(AllocError)?;
+    let mut out = Outbox::new(rt.alloc());
+    out.make_room(7)?;
+    let mut owner = Owner::call(stage, StageCall::Read(X), RegisterContext::empty(), 4);
+    let rounds = RegSession::new(
+        1,
+        RegWork::Fix(Seq::new(rt.alloc())),
+        X.service,
+        1,
+        [false; 7],
+    );
+    owner.fix(rounds);
+    assert_eq!(rt; owner.is_fixing(), true);
+    owner.hear(replica, &Reply::Fixed, &mut out);
+    assert_eq!(rt; owner.result(), Some(RegEnd::Fixed));
+    owner.clear();
+    assert_eq!(rt; owner.result(), None);
+    Ok(())
+}
