@@ -1,0 +1,10 @@
+//! Code: the net with each stage's messages that are still to come in a list of their own.
+#![tactic(auto)]
+
+mod lists;
+mod mail;
+mod numbers;
+#[cfg(test)]
+mod tests;
+
+pub use mail::Mail;
