@@ -1,34 +1,32 @@
 -- When acts are enabled in a file that is built, and what follows where a step is not refused.
-use Rattle.std.proofs.Common.{◌≡◌, ℕ, zero, suc, ◌+◌, ◌-◌, ◌<◌, ◌≤◌, Bool, true, false, ◌∙◌, Option, Some, None, refl, sym, ap, arith, nat_le, if◌then◌else◌}
+use Rattle.std.specs.Prelude.{IsTrue, IsFalse}
+use Rattle.std.proofs.Common.{◌≡◌, ℕ, ◌<◌, Bool, true, false, ◌∙◌, Option, Some, None, refl, sym, ap, arith, nat_le, if◌then◌else◌}
 use Rattle.std.proofs.lemmas.Bool.Decides.{nat_tests}
 use Rattle.pipeline_lang.specs.declared.config.Config.{Config}
-use Rattle.pipeline_lang.specs.declared.script.Statement.{Statement}
-use Rattle.pipeline_lang.specs.declared.script.Statement.TheVariants as statement
-use Rattle.rss_names.specs.declared.service.Key.{Key}
 use Rattle.truetime.specs.Reading.{Reading as At}
 use Rattle.truetime.specs.TrueMoment.{admits}
-use Rattle.built_laws.specs.Ready.{is_register_call}
 use Rattle.rss_machine.specs.Built.{is_built, is_built_step, if_built, built_refusal}
-use Rattle.rss_machine.specs.Enabling.{act_enabling, live_enabling, owner_enabling, can_make, next_statement, whether, is_enabled_at}
+use Rattle.rss_machine.specs.Enabling.{act_enabling, live_enabling, can_make, next_statement, whether, is_enabled_at}
 use Rattle.rss_machine.specs.Moves.{ticks}
 use Rattle.rss_machine.specs.Refusal.{refusal, kind_refusal, unless_enabled}
 use Rattle.rss_machine.specs.Standing.{is_live, is_over}
-use Rattle.rss_machine.specs.State.{State, stage_at, owner_at}
+use Rattle.rss_machine.specs.State.{State, stage_at}
 use Rattle.rss_machine.specs.declared.step.Step.{Step}
 use Rattle.rss_machine.specs.declared.step.StepKind.{StepKind}
 use Rattle.rss_machine.specs.declared.step.StepKind.TheVariants.{Act, Go, Lose, Again, Kill, Stub}
 use Rattle.rss_machine.specs.declared.step.StepRefusal.{StepRefusal}
 use Rattle.rss_machine.specs.declared.step.StepRefusal.TheVariants.{LogFull, StageOver, NotEnabled}
 use Rattle.rss_machine.specs.declared.turn.Enabling.{Enabling}
-use Rattle.rss_machine.specs.declared.turn.Enabling.TheVariants.{Never, Always, After}
-use Rattle.event_world.specs.Next.{statement_of, next_from, is_call}
+use Rattle.rss_machine.specs.declared.turn.Enabling.TheVariants.{Never}
+use Rattle.stage_machine.specs.Next.{statement_of, next_from}
 use Rattle.event_world.specs.Ready.{IsBusy}
-use Rattle.event_world.specs.declared.next.Next.{Next}
-use Rattle.event_world.specs.declared.next.Next.TheVariants as next
+use Rattle.stage_machine.specs.declared.next.Next.{Next}
+use Rattle.stage_machine.specs.declared.next.Next.TheVariants as next
 use Rattle.event_world.proofs.Built.{built_next}
 
 -- each statement that is built can be made
 makes_next : (c : Config) (s : State) (next : Next) → can_make c s (statement_of next) ≡ true
+makes_next c s (next.Let variable value) = refl
 makes_next c s (next.Read variable key) = refl
 makes_next c s (next.Write key value) = refl
 makes_next c s next.Exit = refl
@@ -37,17 +35,17 @@ can_make_built : (c : Config) (s : State) (n : ℕ) → is_built c ≡ true → 
 can_make_built c s n built =
     ap (can_make c s) (sym (built_next c built n (stage_at s n).cursor.position)) ∙ makes_next c s (next_from (next_statement c s n))
 
--- a live stage without a call can act
-pub idle_acts : (c : Config) (s : State) (n : ℕ) → is_built c ≡ true → is_live (stage_at s n).life ≡ true → (stage_at s n).owner ≡ None → act_enabling c s n ≡ whether true
-idle_acts c s n built live none = rw (live, none, can_make_built c s n built) refl
-
--- a live stage that waits for its call cannot
+-- a live stage without a call can act, and one that waits for its call cannot
 by_owner : (c : Config) (s : State) (n : ℕ) (o : Option ℕ) → IsBusy s o → live_enabling c s n o ≡ Never
 by_owner c s n (Some o) h = h
 by_owner c s n None h = absurd h
 
-pub busy_acts : (c : Config) (s : State) (n : ℕ) → is_live (stage_at s n).life ≡ true → IsBusy s (stage_at s n).owner → act_enabling c s n ≡ whether false
-busy_acts c s n live busy = rw live (by_owner c s n (stage_at s n).owner busy)
+by_whether_idle : (c : Config) (s : State) (n : ℕ) (may : Bool) → is_built c ≡ true → (IsTrue may → (stage_at s n).owner ≡ None) → (IsFalse may → IsBusy s (stage_at s n).owner) → live_enabling c s n (stage_at s n).owner ≡ whether may
+by_whether_idle c s n true built idle busy = ap (live_enabling c s n) (idle refl) ∙ ap whether (can_make_built c s n built)
+by_whether_idle c s n false built idle busy = by_owner c s n (stage_at s n).owner (busy refl)
+
+pub live_acts : (c : Config) (s : State) (n : ℕ) (may : Bool) → is_built c ≡ true → is_live (stage_at s n).life ≡ true → (IsTrue may → (stage_at s n).owner ≡ None) → (IsFalse may → IsBusy s (stage_at s n).owner) → act_enabling c s n ≡ whether may
+live_acts c s n may built live idle busy = rw live (by_whether_idle c s n may built idle busy)
 
 -- nor can one that does not live
 pub dead_acts : (c : Config) (s : State) (n : ℕ) → is_live (stage_at s n).life ≡ false → act_enabling c s n ≡ whether false
@@ -60,12 +58,6 @@ by_whether false earliest = refl
 
 pub act_refused : (c : Config) (s : State) (n : ℕ) (at : At) (may : Bool) → is_over (stage_at s n).life ≡ false → act_enabling c s n ≡ whether may → kind_refusal c s at (Act n) ≡ (if may then None else Some NotEnabled)
 act_refused c s n at may living enabled = rw (living, enabled) (by_whether may at.earliest)
-
--- what a statement begins
-pub register_calls : (statement : Statement ℕ Key ℕ ℕ) → is_call (next_from statement) ≡ true → is_register_call statement ≡ true
-register_calls (statement.Read variable key) h = refl
-register_calls (statement.Write key value) h = refl
-register_calls _ h = absurd (cc)
 
 -- the parts of a refusal that there is not
 pub record IsAllowed (c : Config) (s : State) (step : Step) : Type 0 where

@@ -1,63 +1,44 @@
 -- What a stage does next, in a file that is built, comes to the moves that the code makes.
-use Rattle.std.proofs.Common.{◌≡◌, ℕ, zero, suc, ◌+◌, ◌-◌, ◌<◌, ◌≤◌, ◌⊎◌, inl, inr, Bool, true, false, List, [], ◌∷◌, ◌++◌, length, get_or, set, map, Option, Some, None, refl, sym, ap, ◌∙◌, subst, arith, nat_le, if◌then◌else◌}
-use Rattle.std.proofs.lemmas.Grind.{common_steps}
-use Rattle.std.proofs.lemmas.Bool.Decides.{nat_tests}
+use Rattle.std.proofs.Common.{◌≡◌, ℕ, zero, suc, ◌+◌, ◌-◌, true, List, [], ◌∷◌, ◌++◌, length, get_or, set, Option, Some, None, refl, sym, ap, ◌∙◌, if◌then◌else◌}
+use Rattle.std.specs.Option.{option_map}
 use Rattle.truetime.specs.Reading.{Reading}
-use Rattle.rss_names.specs.declared.service.Key.{Key}
-use Rattle.rss_names.specs.declared.service.ServiceId.{ServiceId}
-use Rattle.rss_names.specs.declared.service.Target.{Target}
+use Rattle.causal_context.specs.Deps.{deps_of}
 use Rattle.causal_context.specs.Seen.{Seen}
-use Rattle.causal_context.specs.declared.dep.Dep.{Dep}
+use Rattle.pipeline_lang.specs.Config.{statement_at, script_of}
 use Rattle.pipeline_lang.specs.declared.config.Config.{Config}
-use Rattle.pipeline_lang.specs.declared.config.PipeEnds.{PipeEnds}
-use Rattle.pipeline_lang.specs.Config.{statement_at, replicas_of}
-use Rattle.rss_model.specs.Cursor.{Cursor}
+use Rattle.pipeline_lang.specs.declared.script.Expr.{Expr}
+use Rattle.pipeline_lang.specs.declared.script.Statement.TheVariants as statement
+use Rattle.rss_model.specs.CallStatement.{op_of_statement}
+use Rattle.rss_model.specs.Cursor.{Cursor, NumberedStatement, after_local}
 use Rattle.rss_model.specs.declared.op.Op.{Op}
-use Rattle.rss_model.specs.declared.op.Op.TheVariants as op
 use Rattle.rss_model.specs.declared.history.Entry.{Entry}
 use Rattle.rss_model.specs.declared.history.Entry.TheVariants.{Begin, Give, Over}
 use Rattle.rss_model.specs.declared.history.Token.TheVariants as token
 use Rattle.rss_model.specs.declared.history.How.TheVariants.{Exited}
-use Rattle.rss_wire.specs.declared.messages.Request.{Request}
-use Rattle.rss_tables.specs.Losses.{cut_replicas, no_losses}
-use Rattle.rss_tables.specs.Outs.{Out, awaited}
-use Rattle.rss_tables.specs.RegisterSession.{RegSession, round_requests, opening_session}
 use Rattle.rss_tables.specs.Works.{Plan, plan_for, planned}
-use Rattle.rss_tables.specs.declared.register_session.RegWork.{RegWork}
-use Rattle.rss_tables.specs.declared.register_session.RegWork.TheVariants as work
-use Rattle.rss_machine.specs.Built.{is_built, built_service, built_replicas}
-use Rattle.rss_machine.specs.Calls.{goes_through, works_over, entered_first, starts_call, starts_at_register, launches_register, session_for}
+use Rattle.built_laws.specs.Ready.{no_plan}
+use Rattle.rss_machine.specs.Built.{is_built}
+use Rattle.rss_machine.specs.Calls.{goes_through, goes_on_with_works, works_over, starts_call}
 use Rattle.rss_machine.specs.Effect.{begins_call, makes, acts}
 use Rattle.rss_machine.specs.Enabling.{next_statement}
-use Rattle.rss_machine.specs.Moves.{counts_act, counts_fences, opens_call, enters, exits, closes_from, launches, sends, with_owner}
+use Rattle.rss_machine.specs.Moves.{counts_act, counts_fences, opens_call, enters, exits, closes_from, moves_on}
 use Rattle.rss_machine.specs.Session.{service_of}
 use Rattle.rss_machine.specs.State.{State, Stage, Owner, stage_at, owner_at, opening_owner, no_owner, no_stage}
 use Rattle.rss_machine.specs.declared.session.OwnerKind.TheVariants as kind
-use Rattle.rss_machine.specs.declared.session.Session.TheVariants as session
 use Rattle.rss_machine.specs.declared.state.Life.TheVariants as life
-use Rattle.event_world.specs.Moves.{opens, begins, first_session, asking, leaves, makes_next}
-use Rattle.event_world.specs.Next.{statement_of, next_from, is_call}
-use Rattle.event_world.specs.Parts.{seen_of, call_owner, nobody_cut, op_of_work}
-use Rattle.event_world.specs.declared.context.RegisterContext.{RegisterContext}
-use Rattle.event_world.specs.declared.next.Next.{Next}
-use Rattle.event_world.specs.declared.next.Next.TheVariants as next
-use Rattle.event_world.proofs.Built.{BuiltFile, built_file, built_next, built_serves, Serves}
-use Rattle.event_world.proofs.Lists.{get_end, set_end}
+use Rattle.stage_machine.specs.Calls.{op_of_call}
+use Rattle.stage_machine.specs.Next.{statement_of, next_from}
+use Rattle.stage_machine.specs.declared.call.StageCall.{StageCall}
+use Rattle.stage_machine.specs.declared.next.Next.{Next}
+use Rattle.stage_machine.specs.declared.next.Next.TheVariants as next
+use Rattle.event_world.specs.Moves.{new_owner, opens, leaves}
+use Rattle.event_world.specs.Machine.{state_of}
+use Rattle.event_world.specs.Ready.{IsReady}
+use Rattle.event_world.specs.declared.machine.Machine.{Machine}
+use Rattle.event_world.proofs.Built.{built_file, built_next}
+use Rattle.event_world.proofs.Lists.{get_end}
 
--- a stage that called the service alone has no fence to make, and nothing to enter
-no_plan : Plan
-no_plan = record { fences = []; enter = false }
-
-plan_none : (used : Bool) → plan_for (seen_of record { used = used; dep = None }) built_service ≡ no_plan
-unfolding no_plan
-plan_none true = refl
-plan_none false = refl
-
--- nobody is cut off where nothing was lost
-cut_none : (tries : ℕ) → nat_le 1 tries ≡ true → cut_replicas tries no_losses built_service ≡ nobody_cut
-cut_none tries h =
-    let none : nat_le tries 0 ≡ false = grind (arith, nat_tests, h) in
-    rw none refl
+-- A CALL BEGINS
 
 -- a call that begins, with a plan
 opened_with : State → ℕ → Op → Plan → State
@@ -68,47 +49,36 @@ opened_with s n op plan = record s {
   history = s.history ++ Begin (length s.owners) n op ∷ [];
 }
 
--- the owner of a call that has no plan
-new_owner : State → ℕ → Op → Owner
-new_owner s n op = opening_owner n (kind.Calling op) true (planned (stage_at s n).context no_plan) s.steps
-
 -- how a call goes on whose owner this is
 goes_on_as : Config → State → ℕ → Reading → Op → Owner → State
 goes_on_as c u o at op w = starts_call c (if w.works.enter then enters u o (service_of op) at.latest else u) o at op
 
-launched : State → ℕ → RegSession → List Out → Owner → State
-launched u o r outs w = sends (with_owner u o (record w { session = session.Register r; dates = record w.dates { launched = u.steps } })) o outs
+opened_owner : (s : State) (n : ℕ) (op : Op) → owner_at (opens s n op) (length s.owners) ≡ new_owner s n op
+opened_owner s n op = get_end s.owners (new_owner s n op) no_owner
 
-session_as : Config → ℕ → RegWork → ℕ → Owner → RegSession
-session_as c o w replicas owner = opening_session o w built_service replicas (cut_replicas c.tries owner.losses built_service)
+pub opened_copy : (s t : State) (n o : ℕ) (op : Op) → t ≡ opens s n op → o ≡ length s.owners → (owner_at t o).works.copy ≡ (stage_at s n).context
+opened_copy s t n o op e q =
+    ap (λ (u : State). (owner_at u o).works.copy) e ∙ ap (λ (i : ℕ). (owner_at (opens s n op) i).works.copy) q ∙ ap (λ (w : Owner). w.works.copy) (opened_owner s n op)
 
--- a call of the service begins
-begins_built : (c : Config) (s : State) (n : ℕ) (at : Reading) (op : Op) (w : RegWork) (used : Bool)
-    → replicas_of c built_service ≡ built_replicas → nat_le 1 c.tries ≡ true
-    → (stage_at s n).context ≡ seen_of record { used = used; dep = None }
-    → service_of op ≡ built_service → op_of_work w ≡ op
-    → ((u : State) (o : ℕ) → (owner_at u o).works.copy.deps ≡ [] → starts_call c u o at op ≡ launches_register c u o w built_service)
-    → begins_call c s n at (Some op) ≡ begins s n op w
-unfolding opened_with new_owner goes_on_as launched session_as no_plan
-begins_built c s n at op w used replicas tries seen service same starts =
-    let o : ℕ = length s.owners in
-    let u : State = opened_with s n op no_plan in
-    let own : Owner = new_owner s n op in
-    let plan : plan_for (stage_at s n).context (service_of op) ≡ no_plan = rw (seen, service) (plan_none used) in
+-- a call that owes nothing stores its dependencies, or sends its own first round
+pub begins_so : (c : Config) (s t : State) (n o : ℕ) (at : Reading) (op : Op) → plan_for (stage_at s n).context (service_of op) ≡ no_plan → t ≡ opens s n op → o ≡ length s.owners → goes_on_with_works c (opens_call s n op) o at ≡ starts_call c t o at op
+unfolding opened_with goes_on_as
+begins_so c s t n o at op plan e q =
+    let i : ℕ = length s.owners in
+    let u : State = opens s n op in
     let opened : opens_call s n op ≡ u = ap (opened_with s n op) plan in
-    let here : owner_at u o ≡ own = get_end s.owners own no_owner in
-    let deps : (owner_at u o).works.copy.deps ≡ [] = ap (λ (x : Owner). x.works.copy.deps) here ∙ ap (λ (x : Seen). x.deps) seen in
-    let through : goes_through c u o at (owner_at u o).works.left ≡ goes_on_as c u o at op (owner_at u o) =
-    ap (λ (x : Owner). goes_through c u o at x.works.left) here ∙ ap (λ (x : Owner). works_over c u o at x.kind) here in
-    let begun : goes_on_as c u o at op (owner_at u o) ≡ starts_call c u o at op = ap (goes_on_as c u o at op) here in
-    let r : RegSession = first_session o w in
-    let session_is : session_for c u o w built_service ≡ r = ap (λ (k : ℕ). session_as c o w k (owner_at u o)) replicas ∙ ap (session_as c o w built_replicas) here ∙ ap (opening_session o w built_service built_replicas) (cut_none c.tries tries) in
-    let sent : launches_register c u o w built_service ≡ launched u o r (awaited (round_requests r)) (owner_at u o) = ap (λ (x : RegSession). launched u o x (awaited (round_requests x)) (owner_at u o)) session_is in
-    let put : launched u o r (awaited (round_requests r)) own ≡ begins s n op w =
-    rw (set_end s.owners own (record own { session = session.Register r; dates = record own.dates { launched = u.steps } }), same) refl in
-    ap (λ (x : State). goes_through c x o at (owner_at x o).works.left) opened ∙ through ∙ begun ∙ starts u o deps ∙ sent ∙ ap (launched u o r (awaited (round_requests r))) here ∙ put
+    let here : owner_at u i ≡ new_owner s n op = opened_owner s n op in
+    let through : goes_through c u i at (owner_at u i).works.left ≡ goes_on_as c u i at op (owner_at u i) =
+    ap (λ (x : Owner). goes_through c u i at x.works.left) here ∙ ap (λ (x : Owner). works_over c u i at x.kind) here in
+    let begun : goes_on_as c u i at op (owner_at u i) ≡ starts_call c u i at op = ap (goes_on_as c u i at op) here in
+    ap (λ (x : State). goes_on_with_works c x o at) opened
+    ∙ ap (λ (k : ℕ). goes_on_with_works c u k at) q
+    ∙ through ∙ begun
+    ∙ ap (λ (k : ℕ). starts_call c u k at op) (sym q)
+    ∙ ap (λ (x : State). starts_call c x o at op) (sym e)
 
--- a stage exits
+-- A STAGE EXITS
+
 exited : State → ℕ → State
 exited s n = record s {
   stages = set s.stages (n - 1) (record (stage_at s n) { life = life.Over Exited });
@@ -128,52 +98,78 @@ exits_built c s n none =
     let closed : closes_from c (exited s n) n (stage_at s n).context 1 c.pipe_ends ≡ exited s n = rw none refl in
     ap (λ (t : State). given_exit t n) closed ∙ ap (λ (h : List Entry). record (exited s n) { history = h }) (two-behind s.history (Over n Exited) (Give n (token.Exit n)))
 
--- a call whose owner has no dependencies sends its own first round
-starts_read : (c : Config) (u : State) (o : ℕ) (at : Reading) (key : Key) → key.service ≡ built_service → (owner_at u o).works.copy.deps ≡ [] → starts_call c u o at (op.Read key) ≡ launches_register c u o (work.Read key) built_service
-starts_read c u o at key service deps = ap (starts_at_register c u o at (op.Read key)) deps ∙ ap (launches_register c u o (work.Read key)) service
+-- A STAGE ACTS
 
-starts_write : (c : Config) (u : State) (o : ℕ) (at : Reading) (key : Key) (value : ℕ) → key.service ≡ built_service → (owner_at u o).works.copy.deps ≡ [] → starts_call c u o at (op.Write key value) ≡ launches_register c u o (work.Write key value) built_service
-starts_write c u o at key value service deps = ap (starts_at_register c u o at (op.Write key value)) deps ∙ ap (launches_register c u o (work.Write key value)) service
-
--- what a stage has seen that is to make its next statement
-pub record Sees (s : State) (n : ℕ) (next : Next) (context : RegisterContext) : Type 0 where
-  pub seen : seen_of context ≡ (stage_at s n).context
-  pub fresh : is_call next ≡ true → (stage_at s n).context.deps ≡ []
-
-no_dep : (context : RegisterContext) → (seen_of context).deps ≡ [] → seen_of context ≡ seen_of record { used = context.used; dep = None }
-no_dep context h = by_dep context.dep refl h
+-- it counts its act before
+pub counted_context : (s : State) (n : ℕ) → (stage_at (counts_act s n) n).context ≡ (stage_at s n).context
+counted_context s n = by_place (n - 1) s.stages
   where
-    by_dep : (dep : Option Dep) → context.dep ≡ dep → (seen_of context).deps ≡ [] → seen_of context ≡ seen_of record { used = context.used; dep = None }
-    by_dep None e q = rw e refl
-    by_dep (Some dep) e q = absurd (let x = rw e at q in cc)
-
--- it makes its next statement
-makes_built : (c : Config) (s : State) (n : ℕ) (at : Reading) (next : Next) (context : RegisterContext) → BuiltFile c → Serves next → Sees s n next context → makes c s n at (statement_of next) ≡ makes_next s n next
-makes_built c s n at (next.Read variable key) context f serves sees =
-    let seen : (stage_at s n).context ≡ seen_of record { used = context.used; dep = None } = sym sees.seen ∙ no_dep context (ap (λ (x : Seen). x.deps) sees.seen ∙ sees.fresh refl) in
-    begins_built c s n at (op.Read key) (work.Read key) context.used f.replicas f.tries seen serves refl (λ u o deps. starts_read c u o at key serves deps)
-makes_built c s n at (next.Write key value) context f serves sees =
-    let seen : (stage_at s n).context ≡ seen_of record { used = context.used; dep = None } = sym sees.seen ∙ no_dep context (ap (λ (x : Seen). x.deps) sees.seen ∙ sees.fresh refl) in
-    begins_built c s n at (op.Write key value) (work.Write key value) context.used f.replicas f.tries seen serves refl (λ u o deps. starts_write c u o at key value serves deps)
-makes_built c s n at next.Exit context f serves sees = exits_built c s n f.pipes
-
--- a stage counts its act before
-counted : (s : State) (n : ℕ) → ((stage_at (counts_act s n) n).context ≡ (stage_at s n).context) × ((stage_at (counts_act s n) n).cursor ≡ (stage_at s n).cursor)
-counted s n = by_place (n - 1) s.stages
-  where
-    by_place : (i : ℕ) (stages : List Stage) → ((get_or (set stages i (record (get_or stages i no_stage) { acts = (get_or stages i no_stage).acts + 1 })) i no_stage).context ≡ (get_or stages i no_stage).context) × ((get_or (set stages i (record (get_or stages i no_stage) { acts = (get_or stages i no_stage).acts + 1 })) i no_stage).cursor ≡ (get_or stages i no_stage).cursor)
-    by_place i [] = (refl, refl)
-    by_place zero (x ∷ stages) = (refl, refl)
+    by_place : (i : ℕ) (stages : List Stage) → (get_or (set stages i (record (get_or stages i no_stage) { acts = (get_or stages i no_stage).acts + 1 })) i no_stage).context ≡ (get_or stages i no_stage).context
+    by_place i [] = refl
+    by_place zero (x ∷ stages) = refl
     by_place (suc i) (x ∷ stages) = by_place i stages
 
--- the act of a stage that has no call under way
-pub acts_built : (c : Config) (s : State) (n : ℕ) (at : Reading) (context : RegisterContext) → is_built c ≡ true → (stage_at s n).owner ≡ None → Sees s n (next_from (next_statement c s n)) context → acts c (counts_act s n) n at (stage_at s n).owner ≡ makes_next (counts_act s n) n (next_from (next_statement c s n))
-acts_built c s n at context built none sees =
+pub counted_cursor : (s : State) (n : ℕ) → (stage_at (counts_act s n) n).cursor ≡ (stage_at s n).cursor
+counted_cursor s n = by_place (n - 1) s.stages
+  where
+    by_place : (i : ℕ) (stages : List Stage) → (get_or (set stages i (record (get_or stages i no_stage) { acts = (get_or stages i no_stage).acts + 1 })) i no_stage).cursor ≡ (get_or stages i no_stage).cursor
+    by_place i [] = refl
+    by_place zero (x ∷ stages) = refl
+    by_place (suc i) (x ∷ stages) = by_place i stages
+
+-- its next statement is what the code takes for it
+acts_next : (c : Config) (s : State) (n : ℕ) (at : Reading) (x : Next) → is_built c ≡ true → (stage_at s n).owner ≡ None → x ≡ next_from (next_statement c s n) → acts c (counts_act s n) n at (stage_at s n).owner ≡ makes c (counts_act s n) n at (statement_of x)
+acts_next c s n at x built none e =
     let t : State = counts_act s n in
-    let same = counted s n in
-    let statement : next_statement c t n ≡ next_statement c s n = ap (λ (cursor : Cursor). statement_at c n cursor.position) same.1 in
-    let is : next_statement c s n ≡ statement_of (next_from (next_statement c s n)) = sym (built_next c built n (stage_at s n).cursor.position) in
-    let still : Sees t n (next_from (next_statement c s n)) context = record { seen = sees.seen ∙ sym same.0; fresh = λ call. ap (λ (x : Seen). x.deps) same.0 ∙ sees.fresh call } in
-    ap (acts c t n at) none
-    ∙ ap (makes c t n at) (statement ∙ is)
-    ∙ makes_built c t n at (next_from (next_statement c s n)) context (built_file c built) (built_serves c built n (stage_at s n).cursor.position) still
+    let same : next_statement c t n ≡ next_statement c s n = ap (λ (cursor : Cursor). statement_at c n cursor.position) (counted_cursor s n) in
+    let is : next_statement c s n ≡ statement_of x = sym (built_next c built n (stage_at s n).cursor.position) ∙ ap statement_of (sym e) in
+    ap (acts c t n at) none ∙ ap (makes c t n at) (same ∙ is)
+
+pub acts_by_setting : (c : Config) (s t : State) (n : ℕ) (at : Reading) (x : Next) (variable : ℕ) (value : Expr ℕ) → is_built c ≡ true → (stage_at s n).owner ≡ None → x ≡ next_from (next_statement c s n) → x ≡ next.Let variable value → t ≡ counts_act s n
+    → acts c (counts_act s n) n at (stage_at s n).owner ≡ moves_on t n (after_local (script_of c n) (stage_at t n).cursor (statement.Let variable value))
+acts_by_setting c s t n at x variable value built none e is counted =
+    acts_next c s n at x built none e ∙ ap (λ (y : Next). makes c (counts_act s n) n at (statement_of y)) is ∙ ap (λ (u : State). makes c u n at (statement.Let variable value)) (sym counted)
+
+pub acts_by_exiting : (c : Config) (s t : State) (n : ℕ) (at : Reading) (x : Next) → is_built c ≡ true → (stage_at s n).owner ≡ None → x ≡ next_from (next_statement c s n) → x ≡ next.Exit → t ≡ counts_act s n
+    → acts c (counts_act s n) n at (stage_at s n).owner ≡ leaves t n
+acts_by_exiting c s t n at x built none e is counted =
+    acts_next c s n at x built none e ∙ ap (λ (y : Next). makes c (counts_act s n) n at (statement_of y)) is ∙ ap (λ (u : State). exits c u n) (sym counted) ∙ exits_built c t n (built_file c built).pipes
+
+-- a call that is begun, by its operation
+begun_as : Config → State → ℕ → Reading → Option Op → State
+begun_as c u n at o = begins_call c u n at o
+
+makes_call : (c : Config) (u : State) (n : ℕ) (at : Reading) (x : Next) (call : StageCall) → option_map op_of_call (Some call) ≡ op_of_statement (statement_of x) (stage_at u n).cursor.variables → makes c u n at (statement_of x) ≡ goes_on_with_works c (opens_call u n (op_of_call call)) (length u.owners) at
+unfolding begun_as
+makes_call c u n at (next.Read variable key) call e = ap (begun_as c u n at) (sym e)
+makes_call c u n at (next.Write key value) call e = ap (begun_as c u n at) (sym e)
+makes_call c u n at (next.Let variable value) call e = absurd (cc)
+makes_call c u n at next.Exit call e = absurd (cc)
+
+pub acts_by_calling : (c : Config) (s t : State) (n o : ℕ) (at : Reading) (x : Next) (call : StageCall) → is_built c ≡ true → (stage_at s n).owner ≡ None → x ≡ next_from (next_statement c s n)
+    → option_map op_of_call (Some call) ≡ op_of_statement (statement_of x) (stage_at s n).cursor.variables → t ≡ counts_act s n → o ≡ length t.owners
+    → acts c (counts_act s n) n at (stage_at s n).owner ≡ goes_on_with_works c (opens_call t n (op_of_call call)) o at
+acts_by_calling c s t n o at x call built none e op counted q =
+    let u : State = counts_act s n in
+    let still : option_map op_of_call (Some call) ≡ op_of_statement (statement_of x) (stage_at u n).cursor.variables = op ∙ ap (λ (cursor : Cursor). op_of_statement (statement_of x) cursor.variables) (sym (counted_cursor s n)) in
+    acts_next c s n at x built none e
+    ∙ makes_call c u n at x call still
+    ∙ ap (λ (y : State). goes_on_with_works c (opens_call y n (op_of_call call)) (length y.owners) at) (sym counted)
+    ∙ ap (λ (k : ℕ). goes_on_with_works c (opens_call t n (op_of_call call)) k at) (sym q)
+
+-- it owes nothing before its call, and depends on nothing of another service
+next_op : (c : Config) (s : State) (n : ℕ) (x : Next) (call : StageCall) → is_built c ≡ true → x ≡ next_from (next_statement c s n) → option_map op_of_call (Some call) ≡ op_of_statement (statement_of x) (stage_at s n).cursor.variables → op_of_statement (next_statement c s n) (stage_at s n).cursor.variables ≡ Some (op_of_call call)
+next_op c s n x call built e op =
+    ap (λ (y : NumberedStatement). op_of_statement y (stage_at s n).cursor.variables) (sym (built_next c built n (stage_at s n).cursor.position) ∙ ap statement_of (sym e)) ∙ sym op
+
+pub owes_nothing : (m : Machine) (t : State) (n : ℕ) (x : Next) (call : StageCall) → IsReady m → x ≡ next_from (next_statement m.config (state_of m) n) → option_map op_of_call (Some call) ≡ op_of_statement (statement_of x) (stage_at (state_of m) n).cursor.variables → t ≡ counts_act (state_of m) n
+    → plan_for (stage_at t n).context (service_of (op_of_call call)) ≡ no_plan
+owes_nothing m t n x call h e op counted =
+    let same : (stage_at t n).context ≡ (stage_at (state_of m) n).context = ap (λ (u : State). (stage_at u n).context) counted ∙ counted_context (state_of m) n in
+    ap (λ (seen : Seen). plan_for seen (service_of (op_of_call call))) same ∙ h.plans n (op_of_call call) (next_op m.config (state_of m) n x call h.built e op)
+
+pub depends_on_own : (m : Machine) (t : State) (n : ℕ) (x : Next) (call : StageCall) → IsReady m → x ≡ next_from (next_statement m.config (state_of m) n) → option_map op_of_call (Some call) ≡ op_of_statement (statement_of x) (stage_at (state_of m) n).cursor.variables → t ≡ counts_act (state_of m) n
+    → deps_of (service_of (op_of_call call)) (stage_at t n).context.deps ≡ (stage_at t n).context.deps
+depends_on_own m t n x call h e op counted =
+    let same : (stage_at t n).context ≡ (stage_at (state_of m) n).context = ap (λ (u : State). (stage_at u n).context) counted ∙ counted_context (state_of m) n in
+    ap (λ (seen : Seen). deps_of (service_of (op_of_call call)) seen.deps) same ∙ h.settles n (op_of_call call) (next_op m.config (state_of m) n x call h.built e op) ∙ ap (λ (seen : Seen). seen.deps) (sym same)

@@ -1,5 +1,5 @@
 -- No fence was planned.
-use Rattle.std.proofs.Common.{◌≡◌, ℕ, zero, suc, List, [], ◌∷◌, get_or, replicate, Option, Some, None, refl}
+use Rattle.std.proofs.Common.{◌≡◌, ℕ, zero, suc, get_or, replicate, Option, Some, None, refl}
 use Rattle.rss_machine.specs.ReportText.{count_at}
 
 abbrev pub none : ℕ

@@ -1,68 +1,64 @@
 -- The state before the first step of a file that is built.
-use Rattle.std.proofs.Common.{◌≡◌, ℕ, zero, suc, ◌+◌, Bool, true, false, ◌==◌, ◌&&◌, List, [], ◌∷◌, length, replicate, Option, Some, None, refl, sym, ap, ◌∙◌, subst, arith, if◌then◌else◌}
-use Rattle.std.specs.List.{list_any}
-use Rattle.std.proofs.lemmas.Bool.{eqb-true, and_parts}
+use Rattle.std.proofs.Common.{◌≡◌, ℕ, zero, suc, ◌+◌, true, false, List, [], ◌∷◌, length, replicate, refl, ap}
+use Rattle.std.specs.List.{list_any, list_all}
+use Rattle.std.proofs.lemmas.Bool.{and_parts}
+use Rattle.rss_names.specs.declared.service.Key.{Key}
 use Rattle.rss_names.specs.declared.service.ServiceId.{ServiceId}
-use Rattle.rss_names.specs.declared.service.ServiceId.TheVariants.{Txn, Reg}
-use Rattle.rss_names.specs.Services.{same_service}
-use Rattle.pipeline_lang.specs.declared.config.Config.{Config}
 use Rattle.pipeline_lang.specs.declared.config.Body.{Body}
-use Rattle.pipeline_lang.specs.declared.config.ServiceDef.{ServiceDef}
-use Rattle.rss_wire.specs.declared.messages.RegReply.{RegReply}
+use Rattle.pipeline_lang.specs.declared.config.Config.{Config}
+use Rattle.pipeline_lang.specs.declared.config.PipeEnds.{PipeEnds}
+use Rattle.pipeline_lang.specs.declared.script.Statement.{Statement}
+use Rattle.pipeline_lang.specs.declared.script.Statement.TheVariants as statement
 use Rattle.rss_model.specs.Scripts.{is_spawned, spawns}
-use Rattle.rss_machine.specs.Built.{is_built, built_service, built_replicas, are_built_services}
-use Rattle.rss_machine.specs.State.{Stage, opening_stage, stages_from, shards_from, opening_replicas, replicas_before, replicas_of_services}
-use Rattle.rss_machine.specs.declared.state.Mark.{Mark}
-use Rattle.rss_machine.specs.declared.state.Life.TheVariants.{Unborn, Live}
-use Rattle.event_world.specs.Parts.{marks_from}
-use Rattle.event_world.specs.declared.marks.Note.{Note}
-use Rattle.event_world.proofs.Built.{BuiltScript, BuiltFile, built_file, same-is}
+use Rattle.rss_tables.specs.Pipes.{opening_pipe}
+use Rattle.rss_machine.specs.Built.{is_built, is_built_script, is_built_statement, is_register_service, service_of_script}
+use Rattle.rss_machine.specs.State.{Stage, stages_from, opening_stage}
+use Rattle.rss_machine.specs.Standing.{parent_from, parent_of}
+use Rattle.rss_machine.specs.declared.state.Life.TheVariants.{Live}
+use Rattle.event_world.proofs.Built.{built_file}
 
-no_marks : (first registers : ℕ) → marks_from first registers [] ≡ replicate registers []
-no_marks first zero = refl
-no_marks first (suc registers) = ap (λ (l : List (List Mark)). [] ∷ l) (no_marks (suc first) registers)
+-- a statement that is built spawns no stage
+spawns_none : (service : ServiceId) (x : Statement ℕ Key ℕ ℕ) (n : ℕ) → is_built_statement service x ≡ true → spawns n x ≡ false
+spawns_none service (statement.Let variable value) n h = refl
+spawns_none service (statement.Read variable key) n h = refl
+spawns_none service (statement.Write key value) n h = refl
+spawns_none service statement.Exit n h = refl
+spawns_none service _ n h = absurd (cc)
 
--- the parts of the state of such a file that are lists
-pub record StartsSo (c : Config) : Type 0 where
-  pub stages : stages_from c 1 (length c.bodies) ≡ opening_stage Live ∷ []
-  pub pipes : c.pipe_ends ≡ []
-  pub shards : shards_from c 1 c.shard_services ≡ []
-  pub replicas : replicas_of_services (length c.registers) c.services ≡ opening_replicas (length c.registers) built_replicas ∷ []
-  pub marks : marks_from 0 (length c.registers) [] ≡ replicate (length c.registers) []
+all_spawn_none : (service : ServiceId) (script : List (Statement ℕ Key ℕ ℕ)) (n : ℕ) → list_all (is_built_statement service) script ≡ true → list_any (spawns n) script ≡ false
+all_spawn_none service [] n h = refl
+all_spawn_none service (x ∷ script) n h =
+    let p = and_parts (is_built_statement service x) (list_all (is_built_statement service) script) h in
+    rw (spawns_none service x n p.0) (all_spawn_none service script n p.1)
 
-not_spawned : (c : Config) → BuiltFile c → is_spawned c 1 ≡ false
-not_spawned c f =
-    let P : List Body → Type 0 = λ (bodies : List Body). list_any (λ (body : Body). list_any (spawns 1) body.script) bodies ≡ false in
-    subst P (sym f.bodies) (rw f.script.is refl)
+script_spawns_none : (script : List (Statement ℕ Key ℕ ℕ)) (n : ℕ) → is_built_script script ≡ true → list_any (spawns n) script ≡ false
+script_spawns_none script n h =
+    all_spawn_none (service_of_script script) script n (and_parts (is_register_service (service_of_script script)) (list_all (is_built_statement (service_of_script script)) script) h).1
 
-one_stage : (c : Config) → BuiltFile c → stages_from c 1 (length c.bodies) ≡ opening_stage Live ∷ []
-one_stage c f =
-    let one : length c.bodies ≡ 1 = ap length f.bodies in
-    ap (stages_from c 1) one ∙ rw (not_spawned c f) refl
+none_spawned : (bodies : List Body) (n : ℕ) → list_all (λ (body : Body). is_built_script body.script) bodies ≡ true → list_any (λ (body : Body). list_any (spawns n) body.script) bodies ≡ false
+none_spawned [] n h = refl
+none_spawned (body ∷ bodies) n h =
+    let p = and_parts (is_built_script body.script) (list_all (λ (b : Body). is_built_script b.script) bodies) h in
+    rw (script_spawns_none body.script n p.0) (none_spawned bodies n p.1)
 
-passed : (id : ServiceId) (replicas : List (List RegReply)) (rest : List (List (List RegReply))) → id ≡ Txn 1 → replicas_before id replicas rest ≡ rest
-passed id replicas rest e = rw e refl
+not_spawned : (c : Config) (n : ℕ) → is_built c ≡ true → is_spawned c n ≡ false
+not_spawned c n e = none_spawned c.bodies n (built_file c e).scripts
 
-put : (id : ServiceId) (replicas : List (List RegReply)) (rest : List (List (List RegReply))) → id ≡ built_service → replicas_before id replicas rest ≡ replicas ∷ rest
-put id replicas rest e = rw e refl
+-- so each stage lives from the beginning
+pub live_stages : (c : Config) (n left : ℕ) → is_built c ≡ true → stages_from c n left ≡ replicate left (opening_stage Live)
+live_stages c n zero e = refl
+live_stages c n (suc left) e = rw (not_spawned c n e) (ap (λ (l : List Stage). opening_stage Live ∷ l) (live_stages c (n + 1) left e))
 
-one_service : (services : List ServiceDef) → are_built_services services ≡ true → (registers : ℕ) → replicas_of_services registers services ≡ opening_replicas registers built_replicas ∷ []
-one_service (txn ∷ reg ∷ []) e registers =
-    let p = and_parts (same_service txn.id (Txn 1) && same_service reg.id built_service) (reg.replicas == built_replicas) e in
-    let q = and_parts (same_service txn.id (Txn 1)) (same_service reg.id built_service) p.0 in
-    passed txn.id (opening_replicas registers txn.replicas) (replicas_of_services registers (reg ∷ [])) (same-is txn.id (Txn 1) q.0)
-    ∙ put reg.id (opening_replicas registers reg.replicas) [] (same-is reg.id built_service q.1)
-    ∙ ap (λ (n : ℕ). opening_replicas registers n ∷ []) (eqb-true reg.replicas built_replicas p.1)
-one_service _ e registers = absurd (cc)
+-- and there is no pipe
+pub no_pipes : (c : Config) → is_built c ≡ true → replicate (length c.pipe_ends) opening_pipe ≡ []
+no_pipes c e = ap (λ (l : List PipeEnds). replicate (length l) opening_pipe) (built_file c e).pipes
 
-pub starts_so : (c : Config) → is_built c ≡ true → StartsSo c
-starts_so c e =
-    let f = built_file c e in
-    let n : ℕ = length c.registers in
-    record {
-      stages = one_stage c f;
-      pipes = f.pipes;
-      shards = ap (shards_from c 1) f.shards;
-      replicas = one_service c.services f.services n;
-      marks = no_marks 0 n;
-    }
+-- no stage is the child of another
+no_parent_from : (first n : ℕ) (bodies : List Body) → list_all (λ (body : Body). is_built_script body.script) bodies ≡ true → parent_from first n bodies ≡ 0
+no_parent_from first n [] h = refl
+no_parent_from first n (body ∷ bodies) h =
+    let p = and_parts (is_built_script body.script) (list_all (λ (b : Body). is_built_script b.script) bodies) h in
+    rw (script_spawns_none body.script n p.0) (no_parent_from (first + 1) n bodies p.1)
+
+pub no_parent : (c : Config) (n : ℕ) → is_built c ≡ true → parent_of c n ≡ 0
+no_parent c n e = no_parent_from 1 n c.bodies (built_file c e).scripts

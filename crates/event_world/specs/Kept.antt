@@ -1,7 +1,6 @@
 -- What every World keeps.
 use Rattle.std.specs.Prelude.{◌≡◌, ◌≤◌, true, List, [], ◌∷◌, Some}
 use Rattle.std.specs.List.{list_all}
-use Rattle.pipeline_lang.specs.declared.config.Config.{Config}
 use Rattle.truetime.specs.Reading.{Reading, IsReading}
 use Rattle.rss_machine.specs.Built.{is_built, is_built_step}
 use Rattle.rss_machine.specs.Run.{run, steps_of, readings_of}
@@ -16,11 +15,11 @@ AreReadings [] = Unit {0}
 AreReadings (at ∷ readings) = IsReading at × AreReadings readings
 
 -- the state is the run of the log, whose steps are of kinds that are built, and so is the file
-pub record IsKept (config : Config) (machine : Machine) (log : List Logged) : Type 0 where
-  pub replays : run config (steps_of log) ≡ Some (state_of machine)
+pub record IsKept (machine : Machine) (log : List Logged) : Type 0 where
+  pub replays : run machine.config (steps_of log) ≡ Some (state_of machine)
   pub kinds : list_all (λ (step : Step). is_built_step step.kind) (steps_of log) ≡ true
   pub readings : AreReadings (readings_of (steps_of log))
-  pub built : is_built config ≡ true
-  pub limit : config.max_steps ≤ 200000
+  pub built : is_built machine.config ≡ true
+  pub limit : machine.config.max_steps ≤ 200000
   pub outbox : machine.outbox.requests ≡ []
   pub shown : machine.shown.items ≡ []

@@ -1,36 +1,53 @@
 -- What the rows need to know of the machine before a step: it follows from the run that led there.
-use Rattle.std.specs.Prelude.{ℕ, ◌≡◌, ◌+◌, ◌<◌, ◌≤◌, ◌^◌, Bool, true, [], length, Option, Some, None}
-use Rattle.rss_names.specs.declared.service.Key.{Key}
-use Rattle.pipeline_lang.specs.declared.config.Config.{Config}
+use Rattle.std.specs.Prelude.{ℕ, ◌≡◌, ◌+◌, ◌<◌, ◌≤◌, ◌^◌, true, [], length, Option, Some, None, is_some}
+use Rattle.rss_names.specs.declared.service.Target.{Target}
+use Rattle.causal_context.specs.Deps.{deps_of}
+use Rattle.rss_model.specs.CallStatement.{op_of_statement}
+use Rattle.rss_model.specs.declared.op.Op.{Op}
 use Rattle.rss_wire.specs.declared.messages.Reply.{Reply}
 use Rattle.rss_wire.specs.declared.messages.Request.{Request}
-use Rattle.rss_wire.specs.Messages.{message_at, request_at, reply_at, is_asked, is_sent}
-use Rattle.rss_tables.specs.RegisterSession.{reply_cell, work_key}
+use Rattle.rss_wire.specs.Messages.{no_message, message_at, request_at, reply_at, is_asked, is_sent}
+use Rattle.rss_tables.specs.Losses.{losses_of}
+use Rattle.rss_tables.specs.RegisterSession.{RegSession, reply_cell}
 use Rattle.rss_tables.specs.Round.{hears}
+use Rattle.rss_tables.specs.Works.{plan_for}
 use Rattle.gryff_quorum.specs.Heard.{HasSmallStamps}
-use Rattle.built_laws.specs.Ready.{is_built_target, is_call_request, is_register_call}
-use Rattle.rss_machine.specs.Built.{is_built, built_service, built_replicas}
+use Rattle.built_laws.specs.Ready.{no_plan, is_replica, is_call_request, is_fix_work}
+use Rattle.rss_machine.specs.Built.{is_built}
 use Rattle.rss_machine.specs.Enabling.{next_statement, owner_enabling}
 use Rattle.rss_machine.specs.Endings.{awaits_in}
-use Rattle.rss_machine.specs.declared.turn.Enabling.TheVariants.{Never}
+use Rattle.rss_machine.specs.Session.{Session, service_of}
 use Rattle.rss_machine.specs.State.{State, stage_at, owner_at}
+use Rattle.rss_machine.specs.declared.session.Session.TheVariants as session
+use Rattle.rss_machine.specs.declared.turn.Enabling.TheVariants.{Never}
 use Rattle.event_world.specs.declared.machine.Machine.{Machine}
 use Rattle.event_world.specs.Machine.{state_of}
-use Rattle.event_world.specs.Parts.{register_in, IsRegister}
+
+-- a round hears this reply of any replica, and no stamp that it has heard is too great for a next one
+abbrev pub HearsSmall : Session → Reply → Type 0
+HearsSmall (session.Register r) x = (from : ℕ) → HasSmallStamps (hears r.round from (reply_cell x))
+HearsSmall (session.Fixing r) x = (from : ℕ) → HasSmallStamps (hears r.round from (reply_cell x))
+HearsSmall session.Idle x = Unit {0}
+HearsSmall (session.Transaction t) x = Unit {0}
+HearsSmall (session.Snapshot t) x = Unit {0}
+HearsSmall (session.Settling attempt shards) x = Unit {0}
 
 -- the machine between two steps
-pub record IsReady (c : Config) (m : Machine) : Type 0 where
-  pub built : is_built c ≡ true
-  pub fresh : (n : ℕ) → (stage_at (state_of m) n).owner ≡ None → is_register_call (next_statement c (state_of m) n) ≡ true → (stage_at (state_of m) n).context.deps ≡ []
+pub record IsReady (m : Machine) : Type 0 where
+  pub built : is_built m.config ≡ true
+  pub plans : (n : ℕ) (op : Op) → op_of_statement (next_statement m.config (state_of m) n) (stage_at (state_of m) n).cursor.variables ≡ Some op → plan_for (stage_at (state_of m) n).context (service_of op) ≡ no_plan
+  pub settles : (n : ℕ) (op : Op) → op_of_statement (next_statement m.config (state_of m) n) (stage_at (state_of m) n).cursor.variables ≡ Some op → deps_of (service_of op) (stage_at (state_of m) n).context.deps ≡ (stage_at (state_of m) n).context.deps
   pub acts : (n : ℕ) → (stage_at (state_of m) n).acts + 1 < 2 ^ 32
-  pub targets : (number : ℕ) → is_sent m.net.messages number ≡ true → is_built_target (message_at m.net.messages number).envelope.target ≡ true
+  pub targets : (number : ℕ) → is_sent m.net.messages number ≡ true → is_replica (message_at m.net.messages number).envelope.target ≡ true
   pub owned : (number : ℕ) → is_sent m.net.messages number ≡ true → 1 ≤ (message_at m.net.messages number).envelope.owner
   pub requests : (number : ℕ) (r : Request) → request_at m.net.messages number ≡ Some r → is_call_request r ≡ true
   pub asked : (number : ℕ) (r : Request) → request_at m.net.messages number ≡ Some r → is_asked m.net.messages number ≡ true
-  pub small : (o from number : ℕ) (r : Reply) → IsRegister (owner_at (state_of m) o) → reply_at m.net.messages number ≡ Some r → HasSmallStamps (hears (register_in (owner_at (state_of m) o).session).round from (reply_cell r))
-  pub served : (o : ℕ) (key : Key) → IsRegister (owner_at (state_of m) o) → work_key (register_in (owner_at (state_of m) o).session).work ≡ Some key → key.service ≡ built_service
-  pub asked_of : (o : ℕ) → IsRegister (owner_at (state_of m) o) → (register_in (owner_at (state_of m) o).session).round.replicas ≡ built_replicas
-  pub replicas : length m.replicas.items ≡ built_replicas
+  pub first : (message_at m.net.messages 0).envelope ≡ no_message.envelope
+  pub exchanges : (number : ℕ) → is_sent m.net.messages number ≡ true → is_some (request_at m.net.messages (message_at m.net.messages number).envelope.exchange) ≡ true
+  pub called : (n o : ℕ) → (stage_at (state_of m) n).owner ≡ Some o → 1 ≤ o
+  pub fixing : (o : ℕ) (r : RegSession) → (owner_at (state_of m) o).session ≡ session.Fixing r → is_fix_work r.work ≡ true
+  pub small : (o number : ℕ) (r : Reply) → reply_at m.net.messages number ≡ Some r → HearsSmall (owner_at (state_of m) o).session r
+  pub lost : (o : ℕ) (target : Target) → losses_of (owner_at (state_of m) o).losses target + 1 < 2 ^ 32
   pub stages : length m.stages.items ≤ 16
   pub owners : length m.owners.items < 2 ^ 31
   pub messages : length m.net.messages < 2 ^ 31
@@ -42,12 +59,7 @@ abbrev pub IsBusy : State → Option ℕ → Type 0
 IsBusy s None = ⊥
 IsBusy s (Some o) = owner_enabling s (owner_at s o).works.wait (owner_at s o).session ≡ Never
 
--- a call under way is one of a register, or it has nothing under way
-abbrev pub IsQuiet : State → Option ℕ → Type 0
-IsQuiet s None = Unit {0}
-IsQuiet s (Some o) = awaits_in (owner_at s o).session ≡ None
-
--- a stage has no stub, and waits for no other stage, pipe or call
-pub record IsPlain (s : State) (n : ℕ) : Type 0 where
-  pub stub : (stage_at s n).stub ≡ None
-  pub quiet : IsQuiet s (stage_at s n).owner
+-- a call under way waits for replies alone, or none is under way
+abbrev pub AwaitsReplies : State → Option ℕ → Type 0
+AwaitsReplies s None = Unit {0}
+AwaitsReplies s (Some o) = awaits_in (owner_at s o).session ≡ None

@@ -1,13 +1,9 @@
 -- Requests to replicas.
-use Rattle.std.specs.Prelude.{ℕ, ◌≡◌, Bool, true, false}
+use Rattle.std.specs.Prelude.{ℕ, ◌≡◌, Bool}
 use Rattle.rss_names.specs.declared.service.Target.{Target}
 use Rattle.rss_names.specs.declared.service.Target.TheVariants.{Shard, Replica}
 use Rattle.rss_wire.specs.declared.messages.Request.{Request}
-
--- whether a target is a replica
-abbrev pub is_replica : Target → Bool
-is_replica (Shard shard) = false
-is_replica (Replica service replica) = true
+use Rattle.built_laws.specs.Ready.{is_replica}
 
 -- whether a request is to a replica
 abbrev pub is_to_replica : Target × Request → Bool

@@ -1,124 +1,90 @@
 //! Acts: a stage makes its next statement.
 
-ghost use Rattle.std.specs.Prelude.{◌≡◌, ◌+◌, ◌-◌, ◌<◌, ◌≤◌, ◌^◌, [], ◌∷◌, ◌++◌, length, true, map, set, Some, None, IsSome};
-ghost use Rattle.event_world.specs.Machine.{state_of, HasRoom};
-ghost use Rattle.event_world.specs.Moves.{opens, leaves, begins, first_session, makes_next};
-ghost use Rattle.event_world.specs.Next.{is_call};
-ghost use Rattle.event_world.specs.Parts.{seen_of};
-ghost use Rattle.rss_machine.specs.Moves.{counts_act};
+ghost use Rattle.std.specs.Prelude.{◌≡◌, ◌+◌, ◌<◌, ◌≤◌, ◌^◌, length, true, None};
+ghost use Rattle.causal_context.specs.Deps.{deps_of};
+ghost use Rattle.event_world.specs.Machine.{state_of, HasRoom, IsQuiet};
+ghost use Rattle.event_world.specs.Ready.{IsReady};
+ghost use Rattle.rss_machine.specs.Built.{is_built};
+ghost use Rattle.rss_machine.specs.Calls.{goes_on_with_works};
+ghost use Rattle.rss_machine.specs.Effect.{acts};
+ghost use Rattle.rss_machine.specs.Moves.{opens_call, counts_act};
+ghost use Rattle.rss_machine.specs.Session.{service_of};
 ghost use Rattle.rss_machine.specs.State.{stage_at};
-ghost use Rattle.rss_tables.specs.RegisterSession.{round_requests, work_key};
+ghost use Rattle.rss_tables.specs.Works.{plan_for};
+ghost use Rattle.built_laws.specs.Ready.{no_plan};
+ghost use Rattle.stage_machine.specs.Calls.{op_of_call};
+ghost use Rattle.stage_machine.specs.Next.{next_from, statement_of, goes_on};
+ghost use Rattle.rss_machine.specs.Enabling.{next_statement};
+ghost use Rattle.rss_model.specs.CallStatement.{op_of_statement};
+ghost use Rattle.std.specs.Option.{option_map};
+ghost use Rattle.truetime.specs.Reading.{Reading};
 
-use crate::context::RegisterContext;
 use crate::machine::Machine;
-use crate::next::Next;
-use crate::owner::Owner;
-use gryff_quorum::RegSession;
-use pipeline_lang::Config;
-use rss_model::{Entry, How, Op, Token};
-use rss_names::{CallId, ServiceId, StageId};
-use rss_tables::RegWork;
-
-/// The register service that is built.
-const REGISTER_SERVICE: ServiceId = ServiceId::Reg(1);
-
-/// The number of its replicas that is built.
-pub const BUILT_REPLICAS: u8 = 3;
+use rss_names::StageId;
+use stage_machine::{Next, StageCall, next_at};
 
 impl Machine {
-    /// A stage does what is next, in one more act.
-    pub fn act(&mut self, stage: StageId, next: Next)
-        requires live { (stage_at (state_of self.old) stage).acts + 1 < 2 ^ 32 }
+    // A stage begins a call that owes nothing before it, and sends the requests of its first round.
+    #[tactic(auto, using(crate::proofs::Begins::begins_so, crate::proofs::Begins::opened_copy))]
+    fn start_call(&mut self, stage: StageId, call: StageCall)
+        requires there { stage ≤ length self.old.stages.items }
+        requires built { is_built self.old.config ≡ true }
+        requires owes { plan_for (stage_at (state_of self.old) stage).context (service_of (op_of_call call)) ≡ no_plan }
+        requires settles { deps_of (service_of (op_of_call call)) (stage_at (state_of self.old) stage).context.deps ≡ (stage_at (state_of self.old) stage).context.deps }
         requires owners { length self.old.owners.items < 2 ^ 31 }
         requires messages { length self.old.net.messages < 2 ^ 31 }
-        requires outbox { self.old.outbox.requests ≡ [] }
+        requires quiet { IsQuiet self.old }
         requires room { HasRoom self.old }
-        ensures effect { state_of self.new ≡ makes_next (counts_act (state_of self.old) stage) stage next }
-        ensures outbox { self.new.outbox.requests ≡ [] }
-        ensures shown { self.new.shown.items ≡ self.old.shown.items }
+        ensures effect { (at : Reading) → state_of self.new ≡ goes_on_with_works self.old.config (opens_call (state_of self.old) stage (op_of_call call)) (length self.old.owners.items + 1) at }
+        ensures config { self.new.config ≡ self.old.config }
+        ensures quiet { IsQuiet self.new }
     {
-        self.count_act(stage);
-        match next {
-            Next::Read(_, key) => self.start_call(stage, Op::Read(key), RegWork::Read(key)),
-            Next::Write(key, value) => {
-                self.start_call(stage, Op::Write(key, value), RegWork::Write(key, value))
-            }
-            Next::Exit => self.exit(stage),
-        }
+        let number = self.owners.len() as u32 + 1;
+        self.open_call(number, stage, call);
+        self.begin_rounds(number, call);
     }
 
-    // A stage makes one more act.
-    fn count_act(&mut self, stage: StageId)
-        requires few { (stage_at (state_of self.old) stage).acts + 1 < 2 ^ 32 }
-        ensures counts { state_of self.new ≡ counts_act (state_of self.old) stage }
-        ensures others { self.new ≡ record self.old { stages = self.new.stages } }
-    {
-        if let Some(found) = self.stages.get_mut((stage.number() - 1) as usize) {
-            found.count_act();
-        }
-    }
-
-    // A stage begins a call and sends the requests of its first round.
-    fn start_call(&mut self, stage: StageId, op: Op, work: RegWork)
-        requires owners { length self.old.owners.items < 2 ^ 31 }
-        requires messages { length self.old.net.messages < 2 ^ 31 }
-        requires outbox { self.old.outbox.requests ≡ [] }
-        requires room { HasRoom self.old }
-        requires call { IsSome (work_key work) }
-        ensures effect { state_of self.new ≡ begins (state_of self.old) stage op work }
-        ensures outbox { self.new.outbox.requests ≡ [] }
-        ensures shown { self.new.shown.items ≡ self.old.shown.items }
-    {
-        let call = self.owners.len() as u32 + 1;
-        self.open_call(call, stage, op, work);
-        self.send_all(call, stage);
-    }
-
-    // A stage begins a call: the requests of its first round lie in the outbox.
-    fn open_call(&mut self, call: u32, stage: StageId, op: Op, work: RegWork)
-        requires number { call ≡ length self.old.owners.items + 1 }
-        requires outbox { self.old.outbox.requests ≡ [] }
-        requires room { HasRoom self.old }
-        requires call { IsSome (work_key work) }
-        ensures opens { state_of self.new ≡ opens (state_of self.old) stage op (first_session call work) }
-        ensures outbox { self.new.outbox.requests ≡ round_requests (first_session call work) }
-        ensures owners { length self.new.owners.items ≡ length self.old.owners.items + 1 }
-        ensures others { self.new ≡ record self.old { stages = self.new.stages; owners = self.new.owners; history = self.new.history; outbox = self.new.outbox } }
-    {
-        let mut session = RegSession::new(call, work, REGISTER_SERVICE, BUILT_REPLICAS, [false; 7]);
-        session.start(&mut self.outbox);
-        let context = self.context_of(stage);
-        let owner = Owner::new(stage, context, session, self.steps);
-        self.owners.push(owner).unwrap();
-        if let Some(found) = self.stages.get_mut((stage.number() - 1) as usize) {
-            found.begin(call);
-        }
-        let id = CallId::new(call).unwrap();
-        self.history.push(Entry::Begin(id, stage, op)).unwrap();
-    }
-
-    /// What a stage has seen; one that the file lacks has seen nothing.
-    pub fn context_of(&self, stage: StageId) -> RegisterContext
-        ensures { seen_of result ≡ (stage_at (state_of self.now) stage).context }
+    // What a stage does next.
+    fn next(&self, stage: StageId) -> Next
+        ensures next { result ≡ next_from (next_statement self.now.config (state_of self.now) stage) }
+        ensures within { goes_on result ≡ true → (stage_at (state_of self.now) stage).cursor.position + 1 < 2 ^ 64 }
     {
         match self.stage(stage) {
-            Some(found) => found.context(),
-            None => RegisterContext::empty(),
+            Some(found) => next_at(&self.config, stage, found.position()),
+            None => next_at(&self.config, stage, 0),
         }
     }
 
-    // A stage exits.
-    fn exit(&mut self, stage: StageId)
-        requires room { HasRoom self.old }
-        ensures exits { state_of self.new ≡ leaves (state_of self.old) stage }
-        ensures others { self.new ≡ record self.old { stages = self.new.stages; history = self.new.history } }
+    // The call that this begins, if it begins one.
+    fn call_of(&self, stage: StageId, next: &Next) -> Option<StageCall>
+        requires there { stage ≤ length self.now.stages.items }
+        ensures { option_map op_of_call result ≡ op_of_statement (statement_of next.now) (stage_at (state_of self.now) stage).cursor.variables }
     {
-        if let Some(found) = self.stages.get_mut((stage.number() - 1) as usize) {
-            found.exit();
+        let found = &self.stages[(stage.number() - 1) as usize];
+        found.call_of(next)
+    }
+
+    /// A stage acts that has no call under way.
+    pub fn act_idle(&mut self, stage: StageId)
+        requires idle { (stage_at (state_of self.old) stage).owner ≡ None }
+        requires there { stage ≤ length self.old.stages.items }
+        requires ready { IsReady self.old }
+        requires room { HasRoom self.old }
+        ensures effect { (at : Reading) → state_of self.new ≡ acts self.old.config (counts_act (state_of self.old) stage) stage at (stage_at (state_of self.old) stage).owner }
+        ensures config { self.new.config ≡ self.old.config }
+        ensures quiet { IsQuiet self.new }
+    {
+        let next = self.next(stage);
+        let call = self.call_of(stage, &next);
+        self.count_act(stage);
+        match next {
+            Next::Let(variable, value) => self.set_variable(stage, variable, value),
+            Next::Exit => self.exit(stage),
+            Next::Read(_, _) | Next::Write(_, _) => {
+                if let Some(call) = call {
+                    self.start_call(stage, call);
+                }
+            }
         }
-        self.history.push(Entry::Over(stage, How::Exited)).unwrap();
-        self.history
-            .push(Entry::Give(stage, Token::Exit(stage)))
-            .unwrap();
     }
 }

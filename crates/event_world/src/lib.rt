@@ -2,18 +2,16 @@
 #![tactic(auto)]
 
 mod acts;
-mod context;
 mod deliveries;
 mod hearing;
+mod losses;
 mod machine;
-mod majority;
-mod marks;
-mod next;
 mod opening;
-mod owner;
+mod owners;
 mod reading;
 mod refusing;
-mod stage;
+mod rounds;
+mod stages;
 mod standing;
 mod taking;
 mod world;

@@ -1,37 +1,35 @@
-//! What the layers above ask of calls and stages.
+//! What the layers above ask of owners and stages.
 
 ghost use Rattle.std.specs.Prelude.{◌≡◌, true, Some, None, IfNone};
 ghost use Rattle.carstamps.specs.declared.carstamp.Carstamp.{Carstamp as Stamp};
-ghost use Rattle.event_world.specs.Asked.{blocked_by};
+ghost use Rattle.event_world.specs.Asked.{blocked_by, cut_target};
 ghost use Rattle.event_world.specs.Machine.{state_of};
-ghost use Rattle.event_world.specs.Ready.{IsPlain};
+ghost use Rattle.event_world.specs.Ready.{AwaitsReplies};
 ghost use Rattle.rss_machine.specs.Built.{is_built};
 ghost use Rattle.rss_machine.specs.Marks.{first_mark as first_of};
-ghost use Rattle.rss_machine.specs.Places.{stamp_of as stamp_in, session_key, register_key, work_stamp as stamp_by, phase_stamp as stamp_in_phase, is_read_work, keyed_stamp};
-ghost use Rattle.rss_machine.specs.State.{owner_at, marks_at};
+ghost use Rattle.rss_machine.specs.Places.{stamp_of as stamp_in, session_key, register_key, session_stamp, work_stamp as stamp_by, phase_stamp as stamp_in_phase, keyed_stamp};
+ghost use Rattle.rss_machine.specs.State.{owner_at, stage_at, marks_at};
 ghost use Rattle.rss_machine.specs.Turns.{next_for};
+ghost use Rattle.world_owners.specs.Under.{IsOfRegisters};
 ghost use Rattle.rss_names.specs.declared.service.Key.{Key as Register};
 
 use crate::machine::Machine;
-use crate::marks::first_mark;
 use carstamps::Carstamp;
-use pipeline_lang::Config;
 use rss_machine::OwnerFate;
-use rss_names::{CallId, Key, StageId};
+use rss_names::{CallId, Key, StageId, Target};
 use rss_tables::{Await, RegEnd, RegPhase, RegWork};
+use world_owners::Owner;
 
 impl Machine {
     /// The register and stamp of a call: Some exactly where some replica has handled its store, or
     /// the read has ended. A call without one is not placed.
+    #[tactic(auto, using(crate::proofs::Unplaced::unplaced))]
     pub fn stamp_of(&self, call: CallId) -> Option<(Key, Carstamp)>
         ensures same { result ≡ stamp_in (state_of self.now) call }
         ensures unplaced { IfNone result (session_key (state_of self.now) call (owner_at (state_of self.now) call).session ≡ None) }
     {
         match self.owner(call.number()) {
-            Some(owner) => {
-                let phase = owner.phase();
-                work_stamp(owner.work(), phase, owner.stored())
-            }
+            Some(owner) => stamp_of_owner(owner),
             None => None,
         }
     }
@@ -44,13 +42,13 @@ impl Machine {
         match self.owner(call.number()) {
             Some(owner) => {
                 let _ = owner.phase();
-                reads(owner.work())
+                matches!(owner.work(), Some(RegWork::Read(_)))
             }
             None => true,
         }
     }
 
-    /// How a call stands.
+    /// How an owner stands.
     pub fn fate(&self, call: CallId) -> OwnerFate
         ensures { result ≡ (owner_at (state_of self.now) call).fate }
     {
@@ -60,7 +58,17 @@ impl Machine {
         }
     }
 
-    /// The number of the step that sent a call's own first round; 0 where there is no such call.
+    /// The target whose cut ended an owner as unavailable, if it ended so.
+    pub fn unavailable(&self, number: u32) -> Option<Target>
+        ensures { result ≡ cut_target (owner_at (state_of self.now) number).fate }
+    {
+        match self.owner(number) {
+            Some(owner) => cut_off_from(owner.fate()),
+            None => None,
+        }
+    }
+
+    /// The number of the step that sent a call's own first round; 0 where there is none.
     pub fn launched(&self, call: CallId) -> u32
         ensures { result ≡ (owner_at (state_of self.now) call).dates.launched }
     {
@@ -70,36 +78,23 @@ impl Machine {
         }
     }
 
-    /// The first step after which a majority of replicas held this stamp or a greater one, or None
-    /// where none has.
-    #[tactic(auto, using(crate::proofs::Noting::marks_there, crate::proofs::Noting::no_marks_there))]
-    pub fn majority_step(&self, key: Key, stamp: Carstamp) -> Option<u32>
-        ensures { result ≡ first_of (marks_at (state_of self.now) key) stamp }
-    {
-        if (key.index as usize) < self.registers {
-            first_mark(self.notes.as_slice(), key.index, stamp)
-        } else {
-            None
-        }
-    }
-
     /// What a stage waits for, if it waits for another: no stage does.
     #[tactic(auto, using(crate::proofs::Waits::none_blocked))]
-    pub fn blocked(&self, config: &Config, stage: StageId) -> Option<Await>
-        requires built { is_built config.now ≡ true }
-        ensures { result ≡ blocked_by (next_for config.now (state_of self.now) stage) }
+    pub fn blocked(&self, stage: StageId) -> Option<Await>
+        requires built { is_built self.now.config ≡ true }
+        ensures { result ≡ blocked_by (next_for self.now.config (state_of self.now) stage) }
     {
-        let _ = self.may_act(config, stage);
+        let _acts = self.may_act(stage);
+        let _settles = self.stub_may_act(stage);
         self.see(stage);
         None
     }
 
-    // A stage has no stub, and its call under way is one of a register.
+    // The call under way of a stage waits for replies alone.
     fn see(&self, stage: StageId)
-        ensures { IsPlain (state_of self.now) stage }
+        ensures { AwaitsReplies (state_of self.now) (stage_at (state_of self.now) stage).owner }
     {
         if let Some(found) = self.stage(stage) {
-            let _ = found.stub_can_act();
             if let Some(call) = found.owner() {
                 if let Some(owner) = self.owner(call) {
                     let _ = owner.phase();
@@ -109,13 +104,24 @@ impl Machine {
     }
 }
 
-// Whether a work is a read.
-fn reads(work: &RegWork) -> bool
-    ensures { result ≡ is_read_work work.now }
+// The target from which an owner of this fate was cut off.
+fn cut_off_from(fate: OwnerFate) -> Option<Target>
+    ensures { result ≡ cut_target fate }
 {
-    match work {
-        RegWork::Read(_) => true,
-        RegWork::Write(_, _) | RegWork::Fix(_) => false,
+    match fate {
+        OwnerFate::CutOff(target) => Some(target),
+        OwnerFate::Running | OwnerFate::Ended | OwnerFate::Dropped => None,
+    }
+}
+
+// The register and stamp of an owner, if it is a call that is placed.
+fn stamp_of_owner(owner: &Owner) -> Option<(Key, Carstamp)>
+    ensures same { result ≡ session_stamp owner.now.session owner.now.stored }
+    ensures registers { IsOfRegisters owner.now.session }
+{
+    match (owner.phase(), owner.work()) {
+        (Some(phase), Some(work)) if !owner.is_fixing() => work_stamp(work, phase, owner.stored()),
+        _ => None,
     }
 }
 

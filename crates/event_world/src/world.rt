@@ -5,7 +5,7 @@ ghost use Rattle.event_world.specs.World.{Takes, SameWorld, IsNew};
 ghost use Rattle.std.specs.Prelude.{◌+◌, length, IfNone};
 ghost use Rattle.carstamps.specs.declared.carstamp.Carstamp.{Carstamp as Stamp};
 ghost use Rattle.causal_context.specs.Services.{place_of};
-ghost use Rattle.event_world.specs.Asked.{blocked_by};
+ghost use Rattle.event_world.specs.Asked.{blocked_by, cut_target, count_by};
 ghost use Rattle.rss_machine.specs.Built.{is_built, built_refusal};
 ghost use Rattle.rss_machine.specs.Endings.{ending_of};
 ghost use Rattle.rss_machine.specs.Marks.{first_mark};
@@ -14,8 +14,9 @@ ghost use Rattle.rss_machine.specs.ReportText.{count_at};
 ghost use Rattle.rss_machine.specs.Run.{run, steps_of, readings_of};
 ghost use Rattle.rss_machine.specs.Standing.{stage_state as stage_state_of};
 ghost use Rattle.rss_machine.specs.State.{owner_at, marks_at};
-ghost use Rattle.rss_machine.specs.Turns.{next_for};
+ghost use Rattle.rss_machine.specs.Turns.{next_for, due_message};
 ghost use Rattle.rss_names.specs.declared.service.Key.{Key as Register};
+ghost use Rattle.rss_wire.specs.Messages.{envelope_at};
 ghost use Rattle.truetime.specs.Reading.{AreConsistent};
 
 use crate::machine::Machine;
@@ -23,15 +24,15 @@ use carstamps::Carstamp;
 use pipeline_lang::Config;
 use rss_machine::{Ending, Logged, OwnerFate, StageState, Step, StepRefusal};
 use rss_model::Entry;
-use rss_names::{CallId, Key, ServiceId, StageId};
+use rss_names::{CallId, Key, ServiceId, StageId, Target};
 use rss_tables::Await;
+use rss_wire::Envelope;
 use std::alloc::{AllocError, Global};
 use std::marker::Model;
 
 /// The World makes steps one after another. Contracts see its configuration, the machine's state,
 /// the log, and whether there is room for one step more. Its state is always the run of its log.
 pub struct World {
-    config: Config,
     machine: Machine,
     log: Vec<Logged>,
 }
@@ -40,7 +41,6 @@ pub struct World {
 impl Drop for World {
     fn drop(self) {
         let World {
-            config: _config,
             machine: _machine,
             log: _log,
         } = self;
@@ -56,9 +56,9 @@ impl Model for World {
     ghost use Rattle.event_world.specs.Machine.{state_of, has_room};
     ghost use Rattle.event_world.specs.Kept.{IsKept};
 
-    ghost view = { λ w. record { config = w.config; state = state_of w.machine; log = w.log.items; room = has_room w.machine && nat_le (vec_len w.log + 1) (vec_capacity w.log) } };
+    ghost view = { λ w. record { config = w.machine.config; state = state_of w.machine; log = w.log.items; room = has_room w.machine && nat_le (vec_len w.log + 1) (vec_capacity w.log) } };
 
-    ghost invariant = { λ w. IsKept w.config w.machine w.log.items };
+    ghost invariant = { λ w. IsKept w.machine w.log.items };
 }
 
 impl World {
@@ -68,9 +68,8 @@ impl World {
         requires limit { config.max_steps ≤ 200000 }
         ensures { IfOk result (λ w. IsNew w config) }
     {
-        let machine = Machine::new(alloc, &config)?;
+        let machine = Machine::new(alloc, config)?;
         Ok(World {
-            config,
             machine,
             log: Vec::new(alloc),
         })
@@ -94,12 +93,12 @@ impl World {
         ensures refused { IfErr result (λ e. built_refusal self.old.config self.old.state s.now ≡ Some e) }
         ensures unchanged { OnErr result (self.new ≡ self.old) }
     {
-        if let Some(cause) = self.machine.refusal(&self.config, s) {
+        if let Some(cause) = self.machine.refusal(s) {
             return Err(cause);
         }
         let at = s.at;
         let _latest = at.latest();
-        self.machine.take(&self.config, s);
+        self.machine.take(s);
         let logged = Logged { step: *s, driver };
         self.log.push(logged).unwrap();
         Ok(())
@@ -109,7 +108,7 @@ impl World {
     pub fn enabled(&self, s: &Step) -> bool
         ensures { IsTrue result ↔ (built_refusal self.now.config self.now.state s.now ≡ None) }
     {
-        self.machine.refusal(&self.config, s).is_none()
+        self.machine.refusal(s).is_none()
     }
 
     /// The steps made, with who made them. They lead to the World's state, and some true moment lies
@@ -120,6 +119,13 @@ impl World {
         ensures consistent { AreConsistent (readings_of (steps_of self.now.log)) }
     {
         self.log.as_slice()
+    }
+
+    /// How many of the steps a driver made.
+    pub fn steps_by(&self, driver: u8) -> usize
+        ensures { result ≡ count_by driver self.now.log }
+    {
+        steps_of_driver(self.log.as_slice(), driver)
     }
 
     /// What the stages did, in order.
@@ -133,14 +139,14 @@ impl World {
     pub fn ending(&self) -> Ending
         ensures { result ≡ ending_of self.now.config self.now.state }
     {
-        self.machine.ending(&self.config)
+        self.machine.ending()
     }
 
     /// The configuration that the World was made with.
     pub fn config(&self) -> &Config
         ensures { result.now ≡ self.now.config }
     {
-        &self.config
+        &self.machine.config
     }
 
     /// How many stages the file has, at most sixteen.
@@ -162,7 +168,7 @@ impl World {
     pub fn blocked(&self, stage: StageId) -> Option<Await>
         ensures { result ≡ blocked_by (next_for self.now.config self.now.state stage) }
     {
-        self.machine.blocked(&self.config, stage)
+        self.machine.blocked(stage)
     }
 
     /// How many fences of a service were planned: none, as long as no stage uses two services.
@@ -186,6 +192,29 @@ impl World {
         ensures { result ≡ (owner_at self.now.state call).fate }
     {
         self.machine.fate(call)
+    }
+
+    /// The target whose cut ended an owner as unavailable: Some exactly where it ended so. An owner is
+    /// a call or a stub.
+    pub fn unavailable(&self, owner: u32) -> Option<Target>
+        ensures { result ≡ cut_target (owner_at self.now.state owner).fate }
+    {
+        self.machine.unavailable(owner)
+    }
+
+    /// The outside of a message. None exactly where no message of this number was sent.
+    pub fn envelope(&self, number: u32) -> Option<Envelope>
+        ensures { result ≡ envelope_at self.now.state.net number }
+    {
+        self.machine.envelope(number)
+    }
+
+    /// The outside of a stage's least-numbered message that is still to come, if there is one: the first
+    /// that its turn looks at. Goes through no other messages.
+    pub fn due(&self, stage: StageId) -> Option<Envelope>
+        ensures { result ≡ due_message stage self.now.state.net }
+    {
+        self.machine.net.due(stage)
     }
 
     /// The register and stamp of a call: Some exactly where some replica has handled its store, or
@@ -217,7 +246,7 @@ impl World {
     pub fn majority_step(&self, key: Key, stamp: Carstamp) -> Option<u32>
         ensures { result ≡ first_mark (marks_at self.now.state key) stamp }
     {
-        self.machine.majority_step(key, stamp)
+        self.machine.registers.majority_step(key, stamp)
     }
 
     /// The number of steps made, which is the length of the log; at most 200,000.
@@ -227,4 +256,17 @@ impl World {
     {
         self.machine.steps
     }
+}
+
+// How many of these steps a driver made.
+fn steps_of_driver(log: &[Logged], driver: u8) -> usize
+    ensures { result ≡ count_by driver log.now }
+{
+    let mut made = 0;
+    for logged in log {
+        if logged.driver == driver {
+            made += 1;
+        }
+    }
+    made
 }

@@ -6,4 +6,4 @@ use Rattle.event_world.proofs.world.World.log.Goals as goal
 
 pub returns-clause-consistent : goal.returns-clause-consistent
 returns-clause-consistent c =
-    rw (← c.self.view_is) (readings_consistent c.self.inside.config (steps_of c.self.inside.log.items) (state_of c.self.inside.machine) c.self.invariant.replays (ordered (steps_of c.self.inside.log.items) c.self.invariant.readings))
+    rw (← c.self.view_is) (readings_consistent c.self.inside.machine.config (steps_of c.self.inside.log.items) (state_of c.self.inside.machine) c.self.invariant.replays (ordered (steps_of c.self.inside.log.items) c.self.invariant.readings))

@@ -1,8 +1,8 @@
-use Rattle.std.proofs.Common.{◌≡◌, ◌∙◌, ap, sym}
+use Rattle.std.proofs.Common.{◌∙◌, ap, sym}
 use Rattle.causal_context.specs.Services.{place_of}
 use Rattle.rss_machine.specs.ReportText.{count_at}
 use Rattle.event_world.specs.World.{WorldView}
-use Rattle.event_world.proofs.Planned.{none_planned, none}
+use Rattle.event_world.proofs.Planned.{none_planned}
 use Rattle.event_world.proofs.world.World.planned.Goals as goal
 
 pub returns : goal.returns

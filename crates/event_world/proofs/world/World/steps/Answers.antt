@@ -7,6 +7,6 @@ use Rattle.event_world.proofs.world.World.steps.Goals as goal
 pub returns-clause-few : goal.returns-clause-few
 returns-clause-few c =
     let k = c.self.invariant in
-    let h = ready_run c.self.inside.config (steps_of c.self.inside.log.items) (state_of c.self.inside.machine) k.built k.kinds k.replays in
-    let most : c.self.inside.machine.steps ≤ c.self.inside.config.max_steps = h.steps in
+    let h = ready_run c.self.inside.machine.config (steps_of c.self.inside.log.items) (state_of c.self.inside.machine) k.built k.kinds k.replays in
+    let most : c.self.inside.machine.steps ≤ c.self.inside.machine.config.max_steps = h.steps in
     grind (arith, most, k.limit)
