@@ -77,7 +77,7 @@ kept_sends : (s : State) (o : ℕ) (outs : List Out) (t : State) → SameKept s 
 kept_sends s o [] t h = h
 kept_sends s o (out ∷ outs) t h = kept_sends s o outs (sends_one t o out) (record { replicas = h.replicas; marks = h.marks })
 
-quiet_moves : (c : Config) (at : Reading) (s : State) → OwnerMoves c at (SameKept s) (λ t o. SameKept s t)
+pub quiet_moves : (c : Config) (at : Reading) (s : State) → OwnerMoves c at (SameKept s) (λ t o. SameKept s t)
 quiet_moves c at s = record {
   fates = λ t m f h. record { replicas = h.replicas; marks = h.marks };
   again = λ t o exchange slot target r d h. record { replicas = h.replicas; marks = h.marks };

@@ -76,7 +76,7 @@ first_rises c key z y (step ∷ steps) s l = by_held (is_held (replicas_at v key
     by_held false false e f ih = let n = first_more c s step steps key z e in let m = first_more c s step steps key y f in omega (arith, n, m, ih)
     by_held false true e f ih = absurd (true≢false (sym (held_less key z y (replicas_at v key.service) l f) ∙ e))
 
-step_rises : (c : Config) (key : Key) (z y : Carstamp) (steps : List Step) → stamp_le z y ≡ true → step_of_stamp c steps key z ≤ step_of_stamp c steps key y
+pub step_rises : (c : Config) (key : Key) (z y : Carstamp) (steps : List Step) → stamp_le z y ≡ true → step_of_stamp c steps key z ≤ step_of_stamp c steps key y
 step_rises c key z y steps l = by_opening (stamp_le z opening_stamp) (stamp_le y opening_stamp) refl refl
   where
     by_opening : (a b : Bool) → stamp_le z opening_stamp ≡ a → stamp_le y opening_stamp ≡ b → (if a then 0 else first_held c (start c) steps key z) ≤ (if b then 0 else first_held c (start c) steps key y)
@@ -98,7 +98,7 @@ three_ways z y = grind (arith, nat_tests)
 abbrev keyed : ℕ → ℕ → Carstamp → Bool → ℕ → PlaceKey
 keyed step index stamp reads call = record { step = step; part = part.Register index stamp reads call }
 
-by_step : (m k i j : ℕ) (z y : Carstamp) (a b : Bool) (o p : ℕ) → m < k → key_lt (keyed m i z a o) (keyed k j y b p) ≡ true
+pub by_step : (m k i j : ℕ) (z y : Carstamp) (a b : Bool) (o p : ℕ) → m < k → key_lt (keyed m i z a o) (keyed k j y b p) ≡ true
 by_step m k i j z y a b o p l = grind (arith, nat_tests, l)
 
 by_stamp : (m k i : ℕ) (z y : Carstamp) (a b : Bool) (o p : ℕ) → m ≤ k → stamp_lt z y ≡ true → key_lt (keyed m i z a o) (keyed k i y b p) ≡ true
@@ -141,10 +141,10 @@ module _ (c : Config) (n : IsInOrder c) (steps : List Step) (s : State) (e : run
   stores = (known_run c n.names Stores (λ t o. Stores t) (stores_under c) (λ t at k. record { stores = k.stores }) (stores_start c) steps s e).1
 
   -- the register of a call's round is the file's
-  register_of : (o : ℕ) (r : RegSession) (key : Key) → session_at s o ≡ session.Register r → work_registers r.work ≡ key ∷ [] → IsRegister c key
+  pub register_of : (o : ℕ) (r : RegSession) (key : Key) → session_at s o ≡ session.Register r → work_registers r.work ≡ key ∷ [] → IsRegister c key
   register_of o r key x w = All-head (IsRegister c) key [] (subst (All (IsRegister c)) w (subst (SessionOn (IsRegister c)) x (owner_on (IsRegister c) s o (named_of c s known).owners).under_way).work)
 
-  tells : (key : Key) (z : Carstamp) → IsRegister c key → step_of_stamp c steps key z ≡ marked_step s key z
+  pub tells : (key : Key) (z : Carstamp) → IsRegister c key → step_of_stamp c steps key z ≡ marked_step s key z
   tells key z g = marks_tell_all c key z steps s n.names g e
 
   rises : (key : Key) (z y : Carstamp) → IsRegister c key → stamp_le z y ≡ true → marked_step s key z ≤ marked_step s key y

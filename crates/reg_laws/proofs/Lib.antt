@@ -21,3 +21,9 @@ pub mod Legal
 pub mod Seen
 pub mod Agree
 pub mod Settles
+pub mod Handled
+pub mod AtDates
+pub mod FixesWalk
+pub mod FixesFirst
+pub mod FixesEnd
+pub mod Covered

@@ -161,7 +161,7 @@ turning_stamp s o _ _ (snap_heard t l r e) = tt
 turning_stamp s o _ _ (snap_woken t l e) = tt
 
 -- a register session is its owner's
-round_call : (s : State) (o : ℕ) (f : RegSession) → Owned s → session_at s o ≡ session.Register f → f.call ≡ o
+pub round_call : (s : State) (o : ℕ) (f : RegSession) → Owned s → session_at s o ≡ session.Register f → f.call ≡ o
 round_call s o f h x =
     let e : round_own o f ≡ true = subst (λ (y : Session). session_own o y ≡ true) x (h.sessions o) in
     eqb-true f.call o (and_parts (f.call == o) (phase_own o f.phase) e).0

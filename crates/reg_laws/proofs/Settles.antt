@@ -48,7 +48,7 @@ fix_settles c n s o r e h a x f =
     subst (λ (w : RegWork). All (DepHeld s r.service) (work_deps w)) g.stores (subst (PhaseHeld s r.service r.work) p (round_held s o r (inl x) h.1).ended)
 
 -- what a majority holds of the dependencies on a service has its step by then, and later calls see it
-deps_seen : (c : Config) (steps more : List Step) (u s : State) → IsInOrder c → run c steps ≡ Some u → run c (steps ++ more) ≡ Some s → (id : ServiceId) (deps : List Dep) → All (DepHeld u id) (deps_of id deps) → All (λ (dep : Dep). SeenFromOne c (steps ++ more) u s dep.key dep.stamp) (deps_of id deps)
+pub deps_seen : (c : Config) (steps more : List Step) (u s : State) → IsInOrder c → run c steps ≡ Some u → run c (steps ++ more) ≡ Some s → (id : ServiceId) (deps : List Dep) → All (DepHeld u id) (deps_of id deps) → All (λ (dep : Dep). SeenFromOne c (steps ++ more) u s dep.key dep.stamp) (deps_of id deps)
 deps_seen c steps more u s n e f id [] h = All-nil (λ (dep : Dep). SeenFromOne c (steps ++ more) u s dep.key dep.stamp)
 deps_seen c steps more u s n e f id (d ∷ deps) h = by_own (same_service id d.key.service) refl (deps_seen c steps more u s n e f id deps) h
   where

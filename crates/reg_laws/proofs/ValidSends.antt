@@ -124,7 +124,7 @@ request_not_reply : (q : Request) (r : Reply) → body.Request q ≡ body.Reply 
 request_not_reply q r e = cc
 
 -- owners keep their notes of handled stores
-flag_sends : (s : State) (o : ℕ) (out : Out) (i : ℕ) → (owner_at (sends_one s o out) i).stored ≡ (owner_at s i).stored
+pub flag_sends : (s : State) (o : ℕ) (out : Out) (i : ℕ) → (owner_at (sends_one s o out) i).stored ≡ (owner_at s i).stored
 flag_sends s o out i = grind (arith, looks)
 
 pub grown_same : (s t : State) → t.net ≡ s.net → t.owners ≡ s.owners → Grown s t

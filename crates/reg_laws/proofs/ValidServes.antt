@@ -216,14 +216,14 @@ served_well c s m replica id r d g h = record {
     valid = subst (λ (t : Target). RequestValid s (message_at s.net m).envelope.owner t r) d.to (h.messages.each m r d.asks)
 
 -- what a served request notes
-flag_notes : (s : State) (o : ℕ) (id : ServiceId) (r : Request) (i : ℕ) → (owner_at s i).stored ≡ true → (owner_at (notes_served s o id r) i).stored ≡ true
+pub flag_notes : (s : State) (o : ℕ) (id : ServiceId) (r : Request) (i : ℕ) → (owner_at s i).stored ≡ true → (owner_at (notes_served s o id r) i).stored ≡ true
 flag_notes s o id r = set_each (λ i v. (owner_at s i).stored ≡ true → v.stored ≡ true) s.owners o _ (λ e. kept_flag (is_store r) (owner_at s o).stored e) (λ i e. e)
   where
     kept_flag : (b f : Bool) → f ≡ true → (if b then true else f) ≡ true
     kept_flag true f e = refl
     kept_flag false f e = e
 
-flag_noted : (s : State) (o : ℕ) (id : ServiceId) (r : Request) → o < length s.owners → is_store r ≡ true → (owner_at (notes_served s o id r) o).stored ≡ true
+pub flag_noted : (s : State) (o : ℕ) (id : ServiceId) (r : Request) → o < length s.owners → is_store r ≡ true → (owner_at (notes_served s o id r) o).stored ≡ true
 flag_noted s o id r i e =
     ap (λ (v : Owner). v.stored) (get_or-set_same s.owners o (record (owner_at s o) { stored = if is_store r then true else (owner_at s o).stored }) no_owner i) ∙ ap (λ (b : Bool). if b then true else (owner_at s o).stored) e
 

@@ -1,6 +1,7 @@
 -- What holds of rounds and of what replicas keep, in every run.
-use Rattle.std.specs.Prelude.{◌≡◌, List, ◌++◌, Some}
+use Rattle.std.specs.Prelude.{◌≡◌, List, ◌++◌, Some, ◌∷◌}
 use Rattle.pipeline_lang.specs.declared.config.Config.{Config}
+use Rattle.rss_machine.specs.Effect.{stepped}
 use Rattle.rss_machine.specs.Run.{run}
 use Rattle.rss_machine.specs.State.{State}
 use Rattle.rss_machine.specs.declared.step.Step.{Step}
@@ -9,7 +10,7 @@ use Rattle.reg_laws.specs.Stored.{StampsName, HoldsStored}
 use Rattle.reg_laws.specs.Files.{IsInOrder}
 use Rattle.reg_laws.specs.Told.{RepliesProve, RepliesTell}
 use Rattle.reg_laws.specs.Rounds.{EndsHeld, RoundsSee, SeesSteps}
-use Rattle.reg_laws.specs.Line.{ReadsLegal, PlacesInside, SeenFrom, FixesSettled}
+use Rattle.reg_laws.specs.Line.{ReadsLegal, PlacesInside, SeenFrom, FixesSettled, EndsInTime, FixesFirst, AfterEntry, CoveredBefore, FixesEnd}
 use Rattle.reg_laws.specs.Agree.{AllAgree}
 use Rattle.reg_laws.specs.Awaited.{CurrentsAwaited, RepliesAreOwn}
 
@@ -72,3 +73,26 @@ SessionsAgree = (c : Config) (steps : List Step) (s : State) → run c steps ≡
 abbrev pub FixesSettle : Type 0
 FixesSettle =
     (c : Config) (steps more : List Step) (u s : State) → IsInOrder c → run c steps ≡ Some u → run c (steps ++ more) ≡ Some s → FixesSettled c (steps ++ more) u s
+
+-- what has ended has its step by its end, and later calls see it
+abbrev pub EndsAreInTime : Type 0
+EndsAreInTime = (c : Config) (steps : List Step) (s : State) → IsInOrder c → run c steps ≡ Some s → EndsInTime c steps s
+
+-- a round of dependencies is done before its owner's own first round
+abbrev pub FixesComeFirst : Type 0
+FixesComeFirst =
+    (c : Config) (steps more : List Step) (u s : State) → IsInOrder c → run c steps ≡ Some u → run c (steps ++ more) ≡ Some s → FixesFirst c (steps ++ more) u s
+
+-- calls take effect after they enter their service
+abbrev pub EffectsFollowEntry : Type 0
+EffectsFollowEntry = (c : Config) (steps : List Step) (s : State) → IsInOrder c → run c steps ≡ Some s → AfterEntry s
+
+-- calls stand after what was covered when they sent their own first round
+abbrev pub CoveredStandBefore : Type 0
+CoveredStandBefore =
+    (c : Config) (steps more : List Step) (u s : State) → IsInOrder c → run c steps ≡ Some u → run c (steps ++ more) ≡ Some s → CoveredBefore c (steps ++ more) u s
+
+-- a round of dependencies that ends has settled them before
+abbrev pub FixesEndSettled : Type 0
+FixesEndSettled =
+    (c : Config) (steps more : List Step) (next : Step) (u s : State) → IsInOrder c → run c steps ≡ Some u → run c (steps ++ next ∷ more) ≡ Some s → FixesEnd c (steps ++ next ∷ more) u (stepped c u next) s

@@ -1,10 +1,10 @@
 -- The line of a register: its placed calls in the order of their keys.
-use Rattle.std.specs.Prelude.{◌≡◌, ℕ, ◌<◌, ◌≤◌, ◌⊎◌, true, false, All, List, Some, None, Option}
+use Rattle.std.specs.Prelude.{◌≡◌, ℕ, ◌<◌, ◌≤◌, ◌⊎◌, Bool, true, false, All, List, length, get_or, Some, None, Option}
 use Rattle.rss_names.specs.declared.service.Key.{Key}
 use Rattle.carstamps.specs.declared.carstamp.Carstamp.{Carstamp}
 use Rattle.carstamps.specs.Stamp.{stamp_le, stamp_lt}
 use Rattle.pipeline_lang.specs.declared.config.Config.{Config}
-use Rattle.rss_machine.specs.Times.{step_of_stamp}
+use Rattle.rss_machine.specs.Times.{step_of_stamp, marked_step}
 use Rattle.rss_machine.specs.declared.step.Step.{Step}
 use Rattle.causal_context.specs.declared.dep.Dep.{Dep}
 use Rattle.causal_context.specs.Deps.{deps_of}
@@ -15,7 +15,8 @@ use Rattle.rss_tables.specs.declared.register_session.RegEnd.TheVariants as ends
 use Rattle.rss_tables.specs.declared.register_session.RegPhase.TheVariants as phase
 use Rattle.rss_tables.specs.declared.register_session.RegWork.TheVariants as work
 use Rattle.rss_machine.specs.Places.{phase_stamp, register_key, key_lt}
-use Rattle.rss_machine.specs.State.{State, owner_at}
+use Rattle.rss_machine.specs.Marks.{is_held}
+use Rattle.rss_machine.specs.State.{State, owner_at, replicas_at}
 use Rattle.rss_machine.specs.declared.place.PlaceKey.{PlaceKey}
 use Rattle.rss_machine.specs.declared.session.Session.TheVariants as session
 use Rattle.reg_laws.specs.Rounds.{Writes, Reads}
@@ -75,4 +76,60 @@ pub record SeenFrom (c : Config) (steps : List Step) (u s : State) : Type 0 wher
 -- first round later sees it
 pub record FixesSettled (c : Config) (steps : List Step) (u s : State) : Type 0 where
   pub fix : (o : ℕ) (r : RegSession) → (owner_at u o).session ≡ session.Fixing r → r.phase ≡ phase.Done ends.Fixed
+      → All (λ (dep : Dep). SeenFromOne c steps u s dep.key dep.stamp) (deps_of r.service (owner_at u o).works.copy.deps)
+
+-- by the dates of one state: a stamp has its step by the end of a step, and a call that sends its own first round
+-- in a later one sees it
+pub record SeenAfter (c : Config) (steps : List Step) (s : State) (key : Key) (stamp : Carstamp) (date : ℕ) : Type 0 where
+  pub come : step_of_stamp c steps key stamp ≤ date
+  pub marked : marked_step s key stamp ≤ date
+  pub stored : (o value : ℕ) (other : Carstamp) → date < (owner_at s o).dates.launched → Writes s o key value (phase.Storing other) → stamp_lt stamp other ≡ true
+  pub written : (o value : ℕ) (other : Carstamp) → date < (owner_at s o).dates.launched → Writes s o key value (phase.Done (ends.Written other)) → stamp_lt stamp other ≡ true
+  pub read : (o : ℕ) (cell : RegReply) (dep : Option Dep) → date < (owner_at s o).dates.launched → Reads s o key (phase.Done (ends.Read cell dep)) → stamp_le stamp cell.stamp ≡ true
+
+-- a write that has ended was stored; it has its step by its end, and so has a read on whose stamp all agreed; and
+-- calls that send their own first round later see it
+pub record EndsInTime (c : Config) (steps : List Step) (s : State) : Type 0 where
+  pub stored : (o : ℕ) (key : Key) (value : ℕ) (stamp : Carstamp) → Writes s o key value (phase.Done (ends.Written stamp)) → (owner_at s o).stored ≡ true
+  pub write : (o : ℕ) (key : Key) (value : ℕ) (stamp : Carstamp) → Writes s o key value (phase.Done (ends.Written stamp)) → SeenAfter c steps s key stamp (owner_at s o).dates.ended
+  pub agreed : (o : ℕ) (key : Key) (cell : RegReply) → Reads s o key (phase.Done (ends.Read cell None)) → SeenAfter c steps s key cell.stamp (owner_at s o).dates.ended
+
+-- from a state to a later one that these steps lead to: where an owner has a round of dependencies under way in the
+-- first, and sends its own first round after it, each of them has its step before that round's
+pub record FixesFirst (c : Config) (steps : List Step) (u s : State) : Type 0 where
+  pub fix : (o : ℕ) (r : RegSession) → (owner_at u o).session ≡ session.Fixing r → u.steps < (owner_at s o).dates.launched
+      → All (λ (dep : Dep). step_of_stamp c steps dep.key dep.stamp < (owner_at s o).dates.launched) (deps_of r.service (owner_at u o).works.copy.deps)
+
+-- a call that entered its service takes effect not before the step of its entry, and a write after it
+pub record AfterEntry (s : State) : Type 0 where
+  pub write : (o : ℕ) (key : Key) (value : ℕ) (stamp : Carstamp) → PlacedWrite s o key value stamp → 0 < (owner_at s o).dates.entered → (owner_at s o).dates.entered < (write_key s o key stamp).step
+  pub read : (o : ℕ) (key : Key) (cell : RegReply) (dep : Option Dep) → Reads s o key (phase.Done (ends.Read cell dep)) → 0 < (owner_at s o).dates.entered → (owner_at s o).dates.entered ≤ (read_key s o key cell.stamp).step
+
+-- a register call that is placed, with its stamp, and whether it reads
+pub data PlacedCall (s : State) (o : ℕ) (key : Key) : Carstamp → Bool → Type 0 where
+  writes : (value : ℕ) (stamp : Carstamp) → PlacedWrite s o key value stamp → PlacedCall s o key stamp false
+  reads : (cell : RegReply) (dep : Option Dep) → Reads s o key (phase.Done (ends.Read cell dep)) → PlacedCall s o key cell.stamp true
+
+-- an owner has a round of dependencies under way, and one of them is on a register, with no smaller stamp
+pub record FixCovers (u : State) (o : ℕ) (key : Key) (stamp : Carstamp) : Type 0 where
+  pub round : RegSession
+  pub under_way : (owner_at u o).session ≡ session.Fixing round
+  pub place : ℕ
+  pub dep : Dep
+  pub inside : place < length (deps_of round.service (owner_at u o).works.copy.deps)
+  pub at : get_or (deps_of round.service (owner_at u o).works.copy.deps) place dep ≡ dep
+  pub on : dep.key ≡ key
+  pub above : stamp_le stamp dep.stamp ≡ true
+
+-- from a state to a later one that these steps lead to, over two placed calls: the one that had sent its own first
+-- round by the first state stands before the other that has since, where a majority held the stamp of the one there,
+-- or a round of dependencies of the other covered it
+pub record CoveredBefore (c : Config) (steps : List Step) (u s : State) : Type 0 where
+  pub before : (a b : ℕ) (key other : Key) (stamp z : Carstamp) (r q : Bool) → PlacedCall s a key stamp r → PlacedCall s b other z q → (owner_at s a).dates.launched ≤ u.steps → u.steps < (owner_at s b).dates.launched
+      → (is_held (replicas_at u key.service) key stamp ≡ true) ⊎ FixCovers u b key stamp → key_lt (register_key s a r (key, stamp)) (register_key s b q (other, z)) ≡ true
+
+-- where an owner has a round of dependencies under way in a state, and none of that service after the next step, each
+-- of them has its step before that step, and a call that sends its own first round in it or later sees it
+pub record FixesEnd (c : Config) (steps : List Step) (u v s : State) : Type 0 where
+  pub fix : (o : ℕ) (r : RegSession) → (owner_at u o).session ≡ session.Fixing r → ((other : RegSession) → (owner_at v o).session ≡ session.Fixing other → other.service ≡ r.service → ⊥)
       → All (λ (dep : Dep). SeenFromOne c steps u s dep.key dep.stamp) (deps_of r.service (owner_at u o).works.copy.deps)

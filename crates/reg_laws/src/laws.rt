@@ -1,6 +1,6 @@
 //! The laws of rounds. They hold no code: each is the contract of a function that does nothing.
 
-ghost use Rattle.reg_laws.specs.Laws.{CurrentsAreAwaited, HeardRepliesAreOwn, StampsAreUnique, WhatIsHeldWasStored, RepliesProveHolding, RepliesTellOfBefore, EndsAreHeld, RoundsSeeWhatWasHeld, RoundsSeeSteps, ReadsAreLegal, PlacesAreInside, EndsAreSeen, SessionsAgree, FixesSettle};
+ghost use Rattle.reg_laws.specs.Laws.{CurrentsAreAwaited, HeardRepliesAreOwn, StampsAreUnique, WhatIsHeldWasStored, RepliesProveHolding, RepliesTellOfBefore, EndsAreHeld, RoundsSeeWhatWasHeld, RoundsSeeSteps, ReadsAreLegal, PlacesAreInside, EndsAreSeen, SessionsAgree, FixesSettle, EndsAreInTime, FixesComeFirst, EffectsFollowEntry, CoveredStandBefore, FixesEndSettled};
 
 /// In every run each current exchange of an owner is one that it awaits: with a round under way it is
 /// the owner's request of the round's phase to the replica of its slot, and an owner with nothing
@@ -96,4 +96,39 @@ pub fn sessions_agree()
 /// a call that sends its own first round after the first sees it.
 pub fn fixes_settle()
     ensures { FixesSettle }
+{}
+
+/// In every run of a file in order, by the dates of one state: a write that has ended was stored, and the step
+/// of its stamp is not later than its end; nor is that of the stamp that a read has ended with, where all
+/// agreed on it. A call that sends its own first round in a later step than that sees it.
+pub fn ends_are_in_time()
+    ensures { EndsAreInTime }
+{}
+
+/// From one state of a run to every later one: where an owner has a round of dependencies under way in the
+/// first, and has sent its own first round since, each of those dependencies has its step before that round's,
+/// whatever the owner has done in between.
+pub fn fixes_come_first()
+    ensures { FixesComeFirst }
+{}
+
+/// In every run of a file in order: a call that entered its service takes effect not before the step in which
+/// it entered, and a write after it.
+pub fn effects_follow_entry()
+    ensures { EffectsFollowEntry }
+{}
+
+/// From one state of a run to every later one, over two placed register calls, of which the one had sent its
+/// own first round by the first state and the other has since: the one stands before the other, where in that
+/// state a majority held its stamp, or the other had a round of dependencies under way with one on its
+/// register, of no smaller stamp.
+pub fn covered_stand_before()
+    ensures { CoveredStandBefore }
+{}
+
+/// In every run of a file in order: where an owner, a call or a fence statement or a stub, has a round of
+/// dependencies under way in one state and none of that service after the next step, each of them has its
+/// step before that step. A call that sends its own first round in that step or later sees it.
+pub fn fixes_end_settled()
+    ensures { FixesEndSettled }
 {}

@@ -4,7 +4,9 @@
 mod laws;
 
 pub use laws::{
-    currents_are_awaited, ends_are_held, ends_are_seen, heard_replies_are_own, places_are_inside,
-    reads_are_legal, replies_prove_holding, replies_tell_of_before, rounds_see_steps,
-    rounds_see_what_was_held, sessions_agree, stamps_are_unique, what_is_held_was_stored,
+    covered_stand_before, currents_are_awaited, effects_follow_entry, ends_are_held,
+    ends_are_in_time, ends_are_seen, fixes_come_first, fixes_end_settled, heard_replies_are_own,
+    places_are_inside, reads_are_legal, replies_prove_holding, replies_tell_of_before,
+    rounds_see_steps, rounds_see_what_was_held, sessions_agree, stamps_are_unique,
+    what_is_held_was_stored,
 };

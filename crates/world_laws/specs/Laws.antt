@@ -24,6 +24,9 @@ use Rattle.world_laws.specs.Later.{Later}
 use Rattle.world_laws.specs.Own.{AreOwn}
 use Rattle.world_laws.specs.Proper.{AreProper, registers_of}
 use Rattle.world_laws.specs.Registers.{IsRegister, NamesRegisters}
+use Rattle.world_laws.specs.Calls.{StagesOwn, HistoryTells, DatesTell, Onward}
+use Rattle.world_laws.specs.Scripted.{AreScripted}
+use Rattle.world_laws.specs.Planned.{WorksPlanned}
 
 -- a run goes on by a step that is not refused
 abbrev pub RunsGoOn : Type 0
@@ -108,3 +111,27 @@ MarksAscend = (c : Config) (steps : List Step) (s : State) (key : Key) → run c
 -- every store of a run is of its own call
 abbrev pub StoresAreOwn : Type 0
 StoresAreOwn = (c : Config) (steps : List Step) (s : State) → run c steps ≡ Some s → AreOwn s
+
+-- what stages have under way
+abbrev pub StagesOwnCalls : Type 0
+StagesOwnCalls = (c : Config) (steps : List Step) (s : State) → run c steps ≡ Some s → StagesOwn s
+
+-- the history tells of calls
+abbrev pub HistoryTellsCalls : Type 0
+HistoryTellsCalls = (c : Config) (steps : List Step) (s : State) → run c steps ≡ Some s → HistoryTells s
+
+-- the dates of owners stand in their order
+abbrev pub DatesStandInOrder : Type 0
+DatesStandInOrder = (c : Config) (steps : List Step) (s : State) → run c steps ≡ Some s → DatesTell s
+
+-- calls, fence statements and messages are of the scripts
+abbrev pub CallsAreScripted : Type 0
+CallsAreScripted = (c : Config) (steps : List Step) (s : State) → run c steps ≡ Some s → AreScripted c s
+
+-- owners go on from a state of a run to a later one
+abbrev pub OwnersGoOn : Type 0
+OwnersGoOn = (c : Config) (steps more : List Step) (u s : State) → run c steps ≡ Some u → run c (steps ++ more) ≡ Some s → Onward u s
+
+-- the works of owners are planned
+abbrev pub WorksArePlanned : Type 0
+WorksArePlanned = (c : Config) (steps : List Step) (s : State) → run c steps ≡ Some s → WorksPlanned s

@@ -5,4 +5,7 @@ pub mod Own
 pub mod Ascending
 pub mod Registers
 pub mod Contexts
+pub mod Calls
+pub mod Scripted
+pub mod Planned
 pub mod Laws

@@ -1,6 +1,6 @@
 //! The laws of runs. They hold no code: each is the contract of a function that does nothing.
 
-ghost use Rattle.world_laws.specs.Laws.{RunsGoOn, RunsAreCounted, LogsGrow, ReadingsAreConsistent, MomentsAreTrue, TimesHaveSteps, StepsOfTimesStay, NothingChangesBack, RepliesFit, RequestsAreProper, StoresAreOwn, RegistersAreTheFiles, MarksTellSteps, MarksAscend};
+ghost use Rattle.world_laws.specs.Laws.{RunsGoOn, RunsAreCounted, LogsGrow, ReadingsAreConsistent, MomentsAreTrue, TimesHaveSteps, StepsOfTimesStay, NothingChangesBack, RepliesFit, RequestsAreProper, StoresAreOwn, RegistersAreTheFiles, MarksTellSteps, MarksAscend, StagesOwnCalls, HistoryTellsCalls, DatesStandInOrder, CallsAreScripted, OwnersGoOn, WorksArePlanned};
 
 /// A run goes on by every step that is not refused.
 #[tactic(auto, using(crate::proofs::Runs::run_more))]
@@ -92,4 +92,47 @@ pub fn marks_tell_steps()
 #[tactic(auto, using(crate::proofs::Ascending::marks_ascend))]
 pub fn marks_ascend()
     ensures { MarksAscend }
+{}
+
+/// In every run what a stage has under way is a call or a fence statement of that stage, which runs, and the
+/// stage lives; and each call and fence statement that runs is what its stage has under way.
+pub fn stages_own_calls()
+    ensures { StagesOwnCalls }
+{}
+
+/// In every run the history tells of calls. An owner is a call exactly where the history has begun it, with
+/// its operation and its stage; it has ended exactly where its fate says so, with the reply that its rounds
+/// or its turns gave, and each call whose rounds are done has. A call begins once, ends once at most, and
+/// ends behind its beginning; and where an End stands before the Begin of another call, the one has ended in
+/// an earlier step than the other began.
+pub fn history_tells_calls()
+    ensures { HistoryTellsCalls }
+{}
+
+/// In every run an owner begins, enters its service, sends its own first round and is over in this order, as
+/// far as it does, and none of it later than the steps made; a call has rounds under way only once it has
+/// sent them; and of two calls or fence statements of one stage the earlier was over in an earlier step than
+/// the later began.
+pub fn dates_stand_in_order()
+    ensures { DatesStandInOrder }
+{}
+
+/// In every run each call and each fence statement is one that its stage's script has a statement for, and a
+/// stage gets messages only where some script has a statement that hands one over.
+pub fn calls_are_scripted()
+    ensures { CallsAreScripted }
+{}
+
+/// From one state of a run to every later one: an owner stays of its stage and kind, with the step in which it
+/// began; and once it is over its fate stays, with what it had under way and the step in which it ended.
+pub fn owners_go_on()
+    ensures { OwnersGoOn }
+{}
+
+/// In every run the works that an owner has left fit its copy of a context, once it has planned them: each
+/// service that the copy used last, but the owner's own, has a work among them, and each work is what the copy
+/// owes its service, a least time, nothing or dependencies. A call has none of its own service; and where it
+/// has rounds of its own under way none are left, and its copy used no service but its own last.
+pub fn works_are_planned()
+    ensures { WorksArePlanned }
 {}
