@@ -1,0 +1,15 @@
+pub mod AloneFiles
+pub mod KeyOrder
+pub mod SortedKeys
+pub mod KeyedCalls
+pub mod Placed
+pub mod Told
+pub mod Coupling
+pub mod CoupledOwners
+pub mod CoupledMoves
+pub mod CoupledWalk
+pub mod Beside
+pub mod CoupledRuns
+pub mod Dependencies
+pub mod Ended
+pub mod Regular
