@@ -1,0 +1,13 @@
+pub mod StepMoves
+pub mod Works
+pub mod Acts
+pub mod Hears
+pub mod Walk
+pub mod Under
+pub mod Counting
+pub mod Due
+pub mod Few
+pub mod ReadRounds
+pub mod Clean
+pub mod Watch
+pub mod Watched

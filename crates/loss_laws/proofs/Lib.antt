@@ -1,0 +1,13 @@
+pub mod Steady
+pub mod Calls
+pub mod Acts
+pub mod Dies
+pub mod Cut
+pub mod Losing
+pub mod Held
+pub mod Places
+pub mod Steps
+pub mod Runs
+pub mod Withheld
+pub mod Near
+pub mod Files
