@@ -1,0 +1,11 @@
+pub mod Served
+pub mod Entries
+pub mod Locked
+pub mod Changes
+pub mod Replies
+pub mod Later
+pub mod Closed
+pub mod Snapshots
+pub mod Fitting
+pub mod Committed
+pub mod Sample

@@ -1,0 +1,5 @@
+pub mod Serving
+pub mod Given
+pub mod Told
+pub mod Asked
+pub mod Laws
