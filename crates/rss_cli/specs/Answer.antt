@@ -13,6 +13,7 @@ use Rattle.rss_cli.specs.FaultText.{fault_text}
 use Rattle.rss_cli.specs.Served.{is_served}
 use Rattle.rss_cli.specs.Played.{IsRun, IsFirstRefused}
 use Rattle.rss_cli.specs.Reported.{IsReport}
+use Rattle.rss_cli.specs.Ordered.{HasRegularPlaces, FollowsScripts, EndsWhereWithheld}
 use Rattle.rss_cli.specs.Split.{Splits}
 use Rattle.rss_cli.specs.Statuses.{status_of}
 use Rattle.rss_cli.specs.declared.fault.Fault.TheVariants as fault
@@ -21,11 +22,16 @@ use Rattle.pipeline_file.specs.Document.{config_of}
 use Rattle.rss_cli.specs.declared.status.Status.{Status}
 use Rattle.rss_cli.specs.declared.status.Status.TheVariants.{Done, Unfinished, Limit, Stuck, Hurt, Usage, File, BadStep, ReadFault, WriteFault, OutOfMemory}
 
--- the text reports the run of these steps, and the status is the ending's
+-- the text reports the run of these steps, the places that it prints are a regular order for the run's
+-- history, in which each stage follows its script; a call ends unavailable only where the steps withheld a quorum
+-- from it; and the status is the ending's
 pub record IsReported (c : Config) (steps : List Step) (text : List ℕ) (status : Status) : Type 0 where
   pub state : State
   pub run : IsRun c steps state
   pub report : IsReport c state text
+  pub ordered : HasRegularPlaces state
+  pub scripts : FollowsScripts c state
+  pub withheld : EndsWhereWithheld c steps state
   pub ending : status ≡ status_of (ending_of c state)
 
 -- the text names the first of these steps that the machine refuses, with the cause

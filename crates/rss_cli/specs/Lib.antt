@@ -4,5 +4,6 @@ pub mod Served
 pub mod Split
 pub mod Played
 pub mod Reported
+pub mod Ordered
 pub mod Pieces
 pub mod Answer

@@ -2,6 +2,7 @@
 
 ghost use Rattle.std.specs.Prelude.{◌≡◌, ◌≤◌, true, false, IfOk, length};
 ghost use Rattle.rss_machine.specs.Endings.{ending_of};
+ghost use Rattle.reg_laws.specs.Files.{IsInOrder};
 ghost use Rattle.rss_cli.specs.Answer.{IsRead, IsReplayed, IsPlayed, IsStepsAnswer, IsFileAnswer, IsConfigAnswer, IsNotBuilt, steps_limit, input_limit, is_answer};
 ghost use Rattle.rss_cli.specs.FaultText.{fault_text};
 ghost use Rattle.rss_cli.specs.Served.{is_served};
@@ -69,6 +70,7 @@ fn file_answer(alloc: Global, file: &[u8], behind: &[u8]) -> Result<Answer, Allo
 
 // The answer to a configuration and the step text behind it.
 fn config_answer(alloc: Global, config: Config, behind: &[u8]) -> Result<Answer, AllocError>
+    requires in_order { IsInOrder config }
     requires short { length behind.now ≤ steps_limit }
     ensures answer { IfOk result (λ a. IsConfigAnswer config behind.now a.text.items a.status) }
     ensures status { IfOk result (λ a. is_answer a.status ≡ true) }
@@ -93,6 +95,7 @@ fn not_built(alloc: Global, config: &Config) -> Result<Answer, AllocError>
 // The answer to the step text of a configuration.
 fn steps_answer(alloc: Global, config: Config, behind: &[u8]) -> Result<Answer, AllocError>
     requires built { is_served config ≡ true }
+    requires in_order { IsInOrder config }
     requires short { length behind.now ≤ steps_limit }
     ensures answer { IfOk result (λ a. IsStepsAnswer config behind.now a.text.items a.status) }
     ensures status { IfOk result (λ a. is_answer a.status ≡ true) }
@@ -113,6 +116,7 @@ fn steps_answer(alloc: Global, config: Config, behind: &[u8]) -> Result<Answer, 
 // The answer to a list of steps of a configuration.
 fn played(alloc: Global, config: Config, steps: &[Step]) -> Result<Answer, AllocError>
     requires built { is_served config ≡ true }
+    requires in_order { IsInOrder config }
     ensures answer { IfOk result (λ a. IsPlayed config steps.now a.text.items a.status) }
     ensures status { IfOk result (λ a. is_answer a.status ≡ true) }
 {

@@ -7,6 +7,7 @@ ghost use Rattle.rss_cli.specs.Played.{HasPlayed, IsPlayError};
 use event_world::World;
 use pipeline_lang::Config;
 use rss_machine::{Step, StepRefusal};
+use stage_laws::step_names_its_stage;
 use std::alloc::{AllocError, Global};
 use thiserror::Error;
 
@@ -43,6 +44,7 @@ pub fn play(alloc: Global, config: Config, steps: &[Step]) -> Result<World, Play
             Err(_) => return Err(PlayError::OutOfMemory),
         }
         let _log = world.log();
+        step_names_its_stage(step.kind);
         match world.step(step, 0) {
             Ok(()) => {}
             Err(cause) => {

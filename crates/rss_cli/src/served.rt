@@ -1,73 +1,129 @@
 //! Which files the program runs today.
 
 ghost use Rattle.std.specs.Prelude.{◌≡◌};
+ghost use Rattle.std.specs.List.{list_all};
 ghost use Rattle.rss_names.specs.Services.{same_service};
-ghost use Rattle.rss_names.specs.declared.service.ServiceId.TheVariants.{Txn};
-ghost use Rattle.rss_machine.specs.Built.{built_service, is_built_script as built_script, are_built_bodies as built_bodies, are_built_services as built_services};
-ghost use Rattle.rss_cli.specs.Served.{is_served};
+ghost use Rattle.rss_machine.specs.Built.{is_register_service as register_service, service_of_script as script_service, is_built_statement as built_statement, is_built_script as built_script, has_few_replicas as few_replicas};
+ghost use Rattle.pipeline_lang.specs.declared.config.Body.{Body as StageBody};
+ghost use Rattle.rss_cli.specs.Served.{is_served, has_places as places, is_within as within};
 
-use pipeline_lang::{Body, Config, Expr, ServiceDef, Statement, Term};
-use rss_names::{Key, ServiceId, StageId, is_same_key};
+use pipeline_lang::{Body, Config, ServiceDef, Statement};
+use rss_names::{Key, ServiceId, StageId};
 
 /// The greatest number of steps that a file can allow.
 const MOST_STEPS: u32 = 200_000;
 
-/// The number of replicas that is built.
-const BUILT_REPLICAS: u8 = 3;
+/// The greatest number of stages.
+const MOST_STAGES: usize = 16;
 
-// Whether a service is the transaction service that every file has.
-fn is_first_txn(service: ServiceId) -> bool
-    ensures { result ≡ same_service service (Txn 1) }
+/// The greatest number of a register service.
+const MOST_SERVICES: u8 = 8;
+
+/// The greatest number of replicas of a service.
+const MOST_REPLICAS: u8 = 7;
+
+/// A statement over numbers in place of names.
+type NumberedStatement = Statement<u8, Key, StageId, u8>;
+
+// Whether a service is a register service.
+fn is_register_service(service: ServiceId) -> bool
+    ensures { result ≡ register_service service }
 {
     match service {
-        ServiceId::Txn(number) => number == 1,
-        ServiceId::Reg(_) => false,
-    }
-}
-
-// Whether a service is the register service that every file has.
-fn is_first_reg(service: ServiceId) -> bool
-    ensures { result ≡ same_service service built_service }
-{
-    match service {
+        ServiceId::Reg(_) => true,
         ServiceId::Txn(_) => false,
-        ServiceId::Reg(number) => number == 1,
     }
 }
 
-// Whether a script writes a number and then reads the same register, and nothing else.
-fn is_built_script(script: &[Statement<u8, Key, StageId, u8>]) -> bool
+// Whether two services are the same.
+fn is_same_service(a: ServiceId, b: ServiceId) -> bool
+    ensures { result ≡ same_service a b }
+{
+    match (a, b) {
+        (ServiceId::Txn(m), ServiceId::Txn(n)) | (ServiceId::Reg(m), ServiceId::Reg(n)) => m == n,
+        _ => false,
+    }
+}
+
+// The service that a script uses: that of the first register that it reads or writes.
+fn service_of_script(script: &[NumberedStatement]) -> ServiceId
+    ensures { result ≡ script_service script.now }
+{
+    for statement in script {
+        match statement {
+            Statement::Read(_, key) | Statement::Write(key, _) => return key.service,
+            _ => {}
+        }
+    }
+    ServiceId::Reg(1)
+}
+
+// Whether a statement runs in a script that uses this service.
+fn is_built_statement(service: ServiceId, statement: &NumberedStatement) -> bool
+    ensures { result ≡ built_statement service statement.now }
+{
+    match statement {
+        Statement::Let(_, _) | Statement::Exit => true,
+        Statement::Read(_, key) | Statement::Write(key, _) => is_same_service(key.service, service),
+        _ => false,
+    }
+}
+
+// Whether all these statements run in a script that uses this service.
+fn are_built_statements(service: ServiceId, script: &[NumberedStatement]) -> bool
+    ensures { result ≡ list_all (built_statement service) script.now }
+{
+    script
+        .iter()
+        .all(|statement| is_built_statement(service, statement))
+}
+
+// Whether a script runs: it sets variables, and reads and writes registers of one service.
+fn is_built_script(script: &[NumberedStatement]) -> bool
     ensures { result ≡ built_script script.now }
 {
-    match script {
-        [
-            Statement::Write(key, Expr::One(Term::Number(_))),
-            Statement::Read(_, read_key),
-        ] => is_same_key(*key, *read_key) && is_first_reg(key.service),
-        _ => false,
-    }
+    let service = service_of_script(script);
+    is_register_service(service) && are_built_statements(service, script)
 }
 
-// Whether there is one stage alone, whose script is built.
+// Whether the scripts of all stages run.
 fn are_built_bodies(bodies: &[Body]) -> bool
-    ensures { result ≡ built_bodies bodies.now }
+    ensures { result ≡ list_all (λ (body : StageBody). built_script body.script) bodies.now }
 {
-    match bodies {
-        [body] => is_built_script(body.script.as_slice()),
-        _ => false,
+    bodies
+        .iter()
+        .all(|body| is_built_script(body.script.as_slice()))
+}
+
+// Whether each service has as many replicas as a round can hear.
+fn have_few_replicas(services: &[ServiceDef]) -> bool
+    ensures { result ≡ list_all few_replicas services.now }
+{
+    services.iter().all(|def| def.replicas <= MOST_REPLICAS)
+}
+
+// Whether the losses of each replica of a service are kept.
+fn has_places(def: &ServiceDef) -> bool
+    ensures { result ≡ places def.now }
+{
+    match def.id {
+        ServiceId::Reg(number) => 1 <= number && number <= MOST_SERVICES,
+        ServiceId::Txn(_) => def.replicas == 0,
     }
 }
 
-// Whether there is no service but the two that every file has.
-fn are_built_services(services: &[ServiceDef]) -> bool
-    ensures { result ≡ built_services services.now }
+// Whether they are kept of all services.
+fn have_places(services: &[ServiceDef]) -> bool
+    ensures { result ≡ list_all places services.now }
 {
-    match services {
-        [txn, reg] => {
-            is_first_txn(txn.id) && is_first_reg(reg.id) && reg.replicas == BUILT_REPLICAS
-        }
-        _ => false,
-    }
+    services.iter().all(|def| has_places(def))
+}
+
+// Whether a file has what every valid file has.
+fn is_within(config: &Config) -> bool
+    ensures { result ≡ within config.now }
+{
+    config.max_steps <= MOST_STEPS && config.tries >= 1 && have_places(config.services.as_slice())
 }
 
 /// Whether the program runs a file.
@@ -75,9 +131,8 @@ pub fn served(config: &Config) -> bool
     ensures { result ≡ is_served config.now }
 {
     are_built_bodies(config.bodies.as_slice())
-        && are_built_services(config.services.as_slice())
-        && config.shard_services.len() == 0
+        && config.bodies.len() <= MOST_STAGES
+        && have_few_replicas(config.services.as_slice())
         && config.pipe_ends.len() == 0
-        && config.tries >= 1
-        && config.max_steps <= MOST_STEPS
+        && is_within(config)
 }
