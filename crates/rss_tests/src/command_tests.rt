@@ -46,6 +46,21 @@ fn lists_of_steps_are_answered(rt: HostRuntime) -> Result<(), Fail> {
             2,
             "fault step 3 Message Delivered\n",
         ),
+        (
+            "act 1 10 14\nlose 1 20 24\ngo 1 30 34\n",
+            2,
+            "fault step 3 Message Lost\n",
+        ),
+        (
+            "act 1 10 14\nagain 1 20 24\n",
+            2,
+            "fault step 2 Message NotDelivered\n",
+        ),
+        (
+            "act 1 10 14\ngo 1 20 24\nagain 1 30 34\nagain 1 40 44\n",
+            2,
+            "fault step 4 Message AgainUsed\n",
+        ),
         ("act 1 10 14\nact 1 20 24\n", 2, "fault step 2 NotEnabled\n"),
         ("act 2 10 14\n", 2, "fault step 1 NotEnabled\n"),
         ("act 1 10 14\ngo 1 2", 2, "fault step 2 column 7\n"),

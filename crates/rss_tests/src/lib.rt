@@ -10,4 +10,6 @@ mod commands;
 #[cfg(test)]
 mod file_tests;
 #[cfg(test)]
+mod run_tests;
+#[cfg(test)]
 mod world_tests;

@@ -1,12 +1,15 @@
 //! Refusals of the World, and one file's log running full.
 
-ghost use Rattle.std.specs.Prelude.{◌≡◌, ◌≤◌, [], ◌∷◌, true, IfOk, IsTrue};
-ghost use Rattle.rss_machine.specs.Built.{is_built, is_built_script, are_built_services, are_built_bodies};
+ghost use Rattle.std.specs.Prelude.{◌≡◌, ◌≤◌, [], ◌∷◌, length, true, IfOk, IsTrue};
+ghost use Rattle.std.specs.List.{list_all};
+ghost use Rattle.rss_machine.specs.Built.{is_built, is_built_script, has_few_replicas};
+ghost use Rattle.pipeline_lang.specs.declared.config.Body.{Body as StageBody};
 
 use event_world::World;
 use pipeline_lang::{Body, Config, Expr, NameTable, Script, ServiceDef, Statement, Term};
 use rss_machine::{Step, StepKind, StepRefusal};
 use rss_names::{Key, Name, Seq, ServiceId, StageId};
+use rss_wire::NetRefusal;
 use std::alloc::{AllocError, Global};
 use std::test::Fail;
 use truetime::Interval;
@@ -58,7 +61,7 @@ fn script_of(alloc: Global) -> Result<Script, AllocError>
 
 // The two services that every file has.
 fn services_of(alloc: Global, txn: Name, reg: Name) -> Result<Seq<ServiceDef>, AllocError>
-    ensures { IfOk result (λ services. are_built_services services ≡ true) }
+    ensures { IfOk result (λ services. list_all has_few_replicas services ≡ true) }
 {
     let txn = ServiceDef {
         name: txn,
@@ -75,7 +78,8 @@ fn services_of(alloc: Global, txn: Name, reg: Name) -> Result<Seq<ServiceDef>, A
 
 // The one stage, which runs the script.
 fn bodies_of(alloc: Global) -> Result<Seq<Body>, AllocError>
-    ensures { IfOk result (λ bodies. are_built_bodies bodies ≡ true) }
+    ensures scripts { IfOk result (λ bodies. list_all (λ (body : StageBody). is_built_script body.script) bodies ≡ true) }
+    ensures one { IfOk result (λ bodies. length bodies ≡ 1) }
 {
     let script = script_of(alloc)?;
     let body = Body {
@@ -93,7 +97,7 @@ fn file_of(
     register: Name,
     stage: Name,
 ) -> Result<Config, AllocError>
-    requires { are_built_services services ≡ true }
+    requires { list_all has_few_replicas services ≡ true }
     ensures built { IfOk result (λ c. IsTrue (is_built c)) }
     ensures limit { IfOk result (λ c. c.max_steps ≡ max_steps) }
 {
@@ -144,15 +148,22 @@ fn full_log_and_kinds_not_built_are_refused(rt: HostRuntime) -> Result<(), Fail>
     let alloc = rt.alloc();
     let mut world = world_of(alloc, 1)?;
     let stage = StageId::new(1).ok_or("a stage")?;
-    for kind in [
-        StepKind::Lose(1),
-        StepKind::Again(1),
-        StepKind::Kill(stage),
-        StepKind::Stub(stage),
-    ] {
+    let rows = [
+        (StepKind::Kill(stage), StepRefusal::NotBuilt),
+        (StepKind::Stub(stage), StepRefusal::NotBuilt),
+        (
+            StepKind::Lose(1),
+            StepRefusal::Message(NetRefusal::NoSuchMessage),
+        ),
+        (
+            StepKind::Again(1),
+            StepRefusal::Message(NetRefusal::NoSuchMessage),
+        ),
+    ];
+    for (kind, cause) in rows {
         let step = step_of(kind).ok_or("a step")?;
         world.make_room(&step)?;
-        assert_eq!(rt; world.step(&step, 0), Err(StepRefusal::NotBuilt));
+        assert_eq!(rt; world.step(&step, 0), Err(cause));
     }
     let act = step_of(StepKind::Act(stage)).ok_or("a step")?;
     world.make_room(&act)?;
