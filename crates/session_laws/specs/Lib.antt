@@ -1,0 +1,4 @@
+pub mod Awaits
+pub mod Frames
+pub mod Cases
+pub mod SnapCases
