@@ -22,6 +22,7 @@ pub mod OwnerMoves
 pub mod Histories
 pub mod Entries
 pub mod StageMoves
+pub mod TurnMoves
 pub mod StagesOwned
 pub mod OwnerFits
 pub mod Told

@@ -1,5 +1,5 @@
 -- The walk over what owners do, its second part: calls end, and stages make statements.
-use Rattle.std.proofs.Common.{◌≡◌, ℕ, ◌<◌, Bool, true, false, List, [], ◌∷◌, ◌++◌, length, Option, Some, None, refl, ap, ◌∙◌, subst, arith}
+use Rattle.std.proofs.Common.{◌≡◌, ℕ, ◌<◌, Bool, true, List, [], ◌∷◌, ◌++◌, length, Option, Some, None, refl, ap, subst, arith}
 use Rattle.std.proofs.Math.ListN.{set}
 use Rattle.truetime.specs.Reading.{Reading}
 use Rattle.rss_names.specs.declared.service.Key.{Key}
@@ -15,25 +15,24 @@ use Rattle.rss_tables.specs.declared.register_session.RegEnd.TheVariants as ends
 use Rattle.rss_tables.specs.declared.register_session.RegWork.{RegWork}
 use Rattle.rss_tables.specs.declared.register_session.RegWork.TheVariants as work
 use Rattle.rss_tables.specs.Lines.{Line}
-use Rattle.rss_tables.specs.Outs.{Out}
 use Rattle.rss_tables.specs.Pipes.{Chunk, EndMark, no_mark, fenced_mark, bare_mark}
 use Rattle.rss_tables.specs.RegisterSession.{RegSession}
-use Rattle.rss_tables.specs.SnapshotSession.{SnapSession, snap_end, snap_wakes}
-use Rattle.rss_tables.specs.TransactionSession.{TxnSession, txn_end, shown_reply, txn_wakes, txn_passes, waiting_time}
-use Rattle.rss_tables.specs.Turns.{Turn}
-use Rattle.rss_machine.specs.Calls.{register_ends, ends_at, forgets_if, txn_turns, snap_turns}
+use Rattle.rss_tables.specs.SnapshotSession.{SnapSession}
+use Rattle.rss_tables.specs.TransactionSession.{TxnSession, waiting_time}
+use Rattle.rss_machine.specs.Calls.{register_ends}
 use Rattle.rss_machine.specs.Effect.{begins_call, takes_end, takes, waits_over, makes, txn_line_wakes, snap_line_wakes, txn_acts, session_acts, owner_acts, acts, waking_line}
-use Rattle.rss_machine.specs.Enabling.{next_statement}
-use Rattle.rss_machine.specs.Moves.{opens_call, opens_fence, closes, forgets, turns_session, goes_on}
+use Rattle.std.specs.Prelude.{⊤}
+use Rattle.rss_machine.specs.Enabling.{next_statement, is_enabled_at, txn_enabling, session_enabling, owner_enabling}
+use Rattle.world_laws.proofs.TurnMoves.{StepMoves, txn_wakes_one, snap_wakes_one, txn_passes_time}
+use Rattle.rss_machine.specs.Moves.{opens_call, opens_fence, closes}
 use Rattle.rss_machine.specs.Standing.{is_live, stage_state}
 use Rattle.rss_machine.specs.State.{State, Owner, stage_at, owner_at, pipe_at}
 use Rattle.rss_machine.specs.declared.ending.StageState.{StageState}
 use Rattle.rss_machine.specs.declared.ending.StageState.TheVariants as standing
-use Rattle.rss_machine.specs.declared.session.OwnerKind.{OwnerKind}
 use Rattle.rss_machine.specs.declared.session.OwnerKind.TheVariants as kind
 use Rattle.rss_machine.specs.declared.session.Session.TheVariants as session
 use Rattle.rss_machine.specs.Session.{Session, service_of}
-use Rattle.std.proofs.Common.{◌-◌, sym, All}
+use Rattle.std.proofs.Common.{◌-◌, All}
 use Rattle.rss_machine.specs.declared.state.OwnerFate.{OwnerFate}
 use Rattle.rss_machine.specs.Standing.{exit_context}
 use Rattle.std.proofs.lemmas.List.Elements.{All-nil, All-set, All-head}
@@ -44,17 +43,22 @@ use Rattle.rss_tables.specs.Works.{planned, plan_for, plan_all}
 use Rattle.rss_tables.specs.declared.register_session.RegPhase.TheVariants as phase
 use Rattle.rss_machine.specs.Calls.{goes_on_with_works}
 use Rattle.rss_machine.specs.Moves.{closed, spawns, receives, puts}
-use Rattle.rss_machine.specs.State.{no_currents, opening_owner}
+use Rattle.rss_machine.specs.State.{opening_owner}
 use Rattle.rss_machine.specs.declared.state.OwnerFate.TheVariants.{Ended}
 use Rattle.world_laws.specs.Contexts.{StageHolds, ChunkHolds, PipeHolds, mark_deps}
-use Rattle.world_laws.proofs.Contexts.{joined_hold, stage_holds, stages_hold, copy_holds, pipe_holds, exit_holds, put_pipe, taken_pipe}
-use Rattle.world_laws.proofs.Doings.{turned, calls, fences, ShardTurning, txn_woken, txn_passed, snap_woken, txn_ends, snap_ends, forgets_all, turns}
+use Rattle.world_laws.proofs.Contexts.{joined_hold, stage_holds, stages_hold, pipe_holds, exit_holds, put_pipe, taken_pipe}
+use Rattle.world_laws.proofs.Doings.{calls, fences}
 use Rattle.world_laws.proofs.SessionMoves.{session_at}
-use Rattle.world_laws.proofs.StageMoves.{AllMoves, goes_to, gets, spawns_one, takes_one, puts_one, Lying, exited, stubbed, marked, own, Making, can_end, quiet}
-use Rattle.world_laws.proofs.OwnerMoves.{same_stores, stage_kept, kept_changed, ends_changed, begins_changed, at_own, busy_there, there_own, sends_kept}
+use Rattle.world_laws.proofs.StageMoves.{goes_to, gets, spawns_one, takes_one, puts_one, Lying, exited, stubbed, marked, own, Making, can_end}
+use Rattle.world_laws.proofs.OwnerMoves.{same_stores, stage_kept, ends_changed, begins_changed}
 use Rattle.world_laws.proofs.OwnerWorks.{stage, moves, w_closes, w_exits, w_goes_through, w_waited}
 
-module _ (c : Config) (at : Reading) (A : OwnerFate → Type 0) (F P : State → Type 0) (R D : State → ℕ → Type 0) (k : AllMoves c at A F P R D) where
+-- what a stage has under way can go on in a step with this reading
+abbrev pub IsActive : Reading → State → Option ℕ → Type 0
+IsActive at s None = ⊤
+IsActive at s (Some o) = is_enabled_at (owner_enabling s (owner_at s o).works.wait (owner_at s o).session) at.earliest ≡ true
+
+module _ (c : Config) (at : Reading) (A : OwnerFate → Type 0) (F P : State → Type 0) (R D : State → ℕ → Type 0) (k : StepMoves c at A F P R D) where
   -- calls end
   pub w_register_ends : (s : State) (o : ℕ) (f : RegSession) (e : RegEnd) → A (owner_at s o).fate → session_at s o ≡ session.Register f → (w : RegWork) → f.work ≡ w → f.phase ≡ phase.Done e → D s o → P (register_ends c s o w e)
   w_register_ends s o f (ends.Read cell dep) g x (work.Read key) a b h = k.reads s _ o f key cell dep g x a b refl (ends_changed (given_dep dep) s o _ (closed s o Ended) _ _ refl (λ G n d. n)) h
@@ -66,77 +70,6 @@ module _ (c : Config) (at : Reading) (A : OwnerFate → Type 0) (F P : State →
   w_register_ends s o f (ends.Read cell dep) g x (work.Fix deps) a b h = k.unfit s o f (ends.Read cell dep) x b (ap (λ (w : RegWork). can_end w (ends.Read cell dep)) a) h
   w_register_ends s o f (ends.Written stamp) g x (work.Fix deps) a b h = k.unfit s o f (ends.Written stamp) x b (ap (λ (w : RegWork). can_end w (ends.Written stamp)) a) h
   w_register_ends s o f ends.Fixed g x (work.Fix deps) a b h = k.unfit s o f ends.Fixed x b (ap (λ (w : RegWork). can_end w ends.Fixed) a) h
-
-  w_txn_ends : (s : State) (o : ℕ) (t : TxnSession) → A (owner_at s o).fate → session_at s o ≡ session.Transaction t → (x : OwnerKind) → (owner_at s o).kind ≡ x → (time : Option ℕ) → txn_end t.phase ≡ time → P s → P (ends_at c s o x (shown_reply t.reads t.lines) time)
-  w_txn_ends s o t g a (kind.Calling x) b (Some time) d h =
-      k.does s _ o (closed s o Ended) [] [] g (txn_ends x t time b a d) refl (ends_changed [] s o _ (closed s o Ended) _ _ refl (λ G n y. copy_holds G s o y)) h
-  w_txn_ends s o t g a (kind.Calling x) b None d h = h
-  w_txn_ends s o t g a kind.Fencing b time d h = h
-  w_txn_ends s o t g a (kind.Stubbing u) b time d h = h
-
-  w_snap_ends : (s : State) (o : ℕ) (t : SnapSession) → A (owner_at s o).fate → session_at s o ≡ session.Snapshot t → (x : OwnerKind) → (owner_at s o).kind ≡ x → (time : Option ℕ) → snap_end t.phase ≡ time → P s → P (ends_at c s o x (shown_reply t.keys t.lines) time)
-  w_snap_ends s o t g a (kind.Calling x) b (Some time) d h =
-      k.does s _ o (closed s o Ended) [] [] g (snap_ends x t time b a d) refl (ends_changed [] s o _ (closed s o Ended) _ _ refl (λ G n y. copy_holds G s o y)) h
-  w_snap_ends s o t g a (kind.Calling x) b None d h = h
-  w_snap_ends s o t g a kind.Fencing b time d h = h
-  w_snap_ends s o t g a (kind.Stubbing u) b time d h = h
-
-  w_forgets_if : (b : Bool) (s : State) (o : ℕ) → A (owner_at s o).fate → P s → P (forgets_if b s o)
-  w_forgets_if true s o g h = k.does s (forgets s o) o (record (owner_at s o) { currents = no_currents }) [] [] g forgets_all (quiet refl refl refl) (kept_changed s o _ refl) h
-  w_forgets_if false s o g h = h
-
-  forgets_session : (b : Bool) (s : State) (o : ℕ) → session_at (forgets_if b s o) o ≡ session_at s o
-  forgets_session true s o = grind (arith, looks)
-  forgets_session false s o = refl
-
-  forgets_kind : (b : Bool) (s : State) (o : ℕ) → (owner_at (forgets_if b s o) o).kind ≡ (owner_at s o).kind
-  forgets_kind true s o = grind (arith, looks)
-  forgets_kind false s o = refl
-
-  forgets_fate : (b : Bool) (s : State) (o : ℕ) → (owner_at (forgets_if b s o) o).fate ≡ (owner_at s o).fate
-  forgets_fate true s o = grind (arith, looks)
-  forgets_fate false s o = refl
-
-  -- what an owner has under way with shards takes a turn
-  goes_session : (s : State) (o : ℕ) (x : Session) (outs : List Out) → o < length s.owners → session_at (goes_on s o x outs) o ≡ x
-  goes_session s o x outs i = ap (λ (w : Owner). w.session) (sends_kept (turns_session s o x) o outs o) ∙ ap (λ (w : Owner). w.session) (at_own s o (turned s o x) i)
-
-  goes_kind : (s : State) (o : ℕ) (x : Session) (outs : List Out) → (owner_at (goes_on s o x outs) o).kind ≡ (owner_at s o).kind
-  goes_kind s o x outs = ap (λ (w : Owner). w.kind) (sends_kept (turns_session s o x) o outs o) ∙ turned_kind s o x
-    where
-      turned_kind : (s : State) (o : ℕ) (x : Session) → (owner_at (turns_session s o x) o).kind ≡ (owner_at s o).kind
-      turned_kind s o x = grind (arith, looks)
-
-  goes_fate : (s : State) (o : ℕ) (x : Session) (outs : List Out) → (owner_at (goes_on s o x outs) o).fate ≡ (owner_at s o).fate
-  goes_fate s o x outs = ap (λ (w : Owner). w.fate) (sends_kept (turns_session s o x) o outs o) ∙ turned_fate s o x
-    where
-      turned_fate : (s : State) (o : ℕ) (x : Session) → (owner_at (turns_session s o x) o).fate ≡ (owner_at s o).fate
-      turned_fate s o x = grind (arith, looks)
-
-  w_goes_on : (s : State) (o : ℕ) (x : Session) (outs : List Out) → A (owner_at s o).fate → ShardTurning s o x outs → P s → P (goes_on s o x outs)
-  w_goes_on s o x outs g y h = k.does s (turns_session s o x) o (turned s o x) outs [] g (turns x outs y) (quiet refl refl refl) (kept_changed s o (turned s o x) refl) h
-
-  forgets_there : (b : Bool) (s : State) (o : ℕ) → o < length s.owners → o < length (forgets_if b s o).owners
-  forgets_there true s o i = there_own s o _ i
-  forgets_there false s o i = i
-
-  pub w_txn_turns : (s : State) (o : ℕ) (t : Turn TxnSession) → o < length s.owners → A (owner_at s o).fate → ((u : State) → session_at u o ≡ session_at s o → ShardTurning u o (session.Transaction t.after) t.outs) → P s → P (txn_turns c s o t)
-  w_txn_turns s o t i g y h =
-      let u = forgets_if t.anew s o in
-      let v = goes_on u o (session.Transaction t.after) t.outs in
-      let a : A (owner_at u o).fate = subst A (sym (forgets_fate t.anew s o)) g in
-      w_txn_ends v o t.after (subst A (sym (goes_fate u o (session.Transaction t.after) t.outs)) a) (goes_session u o (session.Transaction t.after) t.outs (forgets_there t.anew s o i)) (owner_at s o).kind
-      (goes_kind u o (session.Transaction t.after) t.outs ∙ forgets_kind t.anew s o) (txn_end t.after.phase) refl
-      (w_goes_on u o (session.Transaction t.after) t.outs a (y u (forgets_session t.anew s o)) (w_forgets_if t.anew s o g h))
-
-  pub w_snap_turns : (s : State) (o : ℕ) (t : Turn SnapSession) → o < length s.owners → A (owner_at s o).fate → ((u : State) → session_at u o ≡ session_at s o → ShardTurning u o (session.Snapshot t.after) t.outs) → P s → P (snap_turns c s o t)
-  w_snap_turns s o t i g y h =
-      let u = forgets_if t.anew s o in
-      let v = goes_on u o (session.Snapshot t.after) t.outs in
-      let a : A (owner_at u o).fate = subst A (sym (forgets_fate t.anew s o)) g in
-      w_snap_ends v o t.after (subst A (sym (goes_fate u o (session.Snapshot t.after) t.outs)) a) (goes_session u o (session.Snapshot t.after) t.outs (forgets_there t.anew s o i)) (owner_at s o).kind
-      (goes_kind u o (session.Snapshot t.after) t.outs ∙ forgets_kind t.anew s o) (snap_end t.after.phase) refl
-      (w_goes_on u o (session.Snapshot t.after) t.outs a (y u (forgets_session t.anew s o)) (w_forgets_if t.anew s o g h))
 
   -- statements
   grown_there : (s : State) (w : Owner) → length s.owners < length (s.owners ++ w ∷ [])
@@ -222,36 +155,30 @@ module _ (c : Config) (at : Reading) (A : OwnerFate → Type 0) (F P : State →
   w_makes s n statement.Exit m f e h = w_exits c at A F P R D k s n m h
 
   -- acts of owners
-  pub txn_there : (s : State) (o : ℕ) (t : TxnSession) → session_at s o ≡ session.Transaction t → o < length s.owners
-  txn_there s o t e = busy_there s o (session.Transaction t) e refl
+  w_txn_line_wakes : (s : State) (o : ℕ) (t : TxnSession) (l : Option Line) → A (owner_at s o).fate → session_at s o ≡ session.Transaction t → waiting_time t t.phase ≡ None → waking_line s t.lines ≡ l → P s → P (txn_line_wakes c s o t l)
+  w_txn_line_wakes s o t None g x a b h = h
+  w_txn_line_wakes s o t (Some l) g x a b h = k.turns s _ o g (txn_wakes_one t l x a b) h
 
-  pub snap_there : (s : State) (o : ℕ) (t : SnapSession) → session_at s o ≡ session.Snapshot t → o < length s.owners
-  snap_there s o t e = busy_there s o (session.Snapshot t) e refl
+  w_snap_line_wakes : (s : State) (o : ℕ) (t : SnapSession) (l : Option Line) → A (owner_at s o).fate → session_at s o ≡ session.Snapshot t → waking_line s t.lines ≡ l → P s → P (snap_line_wakes c s o t l)
+  w_snap_line_wakes s o t None g x b h = h
+  w_snap_line_wakes s o t (Some l) g x b h = k.turns s _ o g (snap_wakes_one t l x b) h
 
-  w_txn_line_wakes : (s : State) (o : ℕ) (t : TxnSession) (l : Option Line) → A (owner_at s o).fate → session_at s o ≡ session.Transaction t → P s → P (txn_line_wakes c s o t l)
-  w_txn_line_wakes s o t None g x h = h
-  w_txn_line_wakes s o t (Some l) g x h = w_txn_turns s o (txn_wakes t l) (txn_there s o t x) g (λ u e. txn_woken t l (e ∙ x)) h
+  w_txn_acts : (s : State) (o : ℕ) (t : TxnSession) (time : Option ℕ) → A (owner_at s o).fate → session_at s o ≡ session.Transaction t → waiting_time t t.phase ≡ time → is_enabled_at (txn_enabling s time t.lines) at.earliest ≡ true → P s → P (txn_acts c s o t time)
+  w_txn_acts s o t (Some time) g x a b h = k.turns s _ o g (txn_passes_time t time x a b) h
+  w_txn_acts s o t None g x a b h = w_txn_line_wakes s o t (waking_line s t.lines) g x a refl h
 
-  w_snap_line_wakes : (s : State) (o : ℕ) (t : SnapSession) (l : Option Line) → A (owner_at s o).fate → session_at s o ≡ session.Snapshot t → P s → P (snap_line_wakes c s o t l)
-  w_snap_line_wakes s o t None g x h = h
-  w_snap_line_wakes s o t (Some l) g x h = w_snap_turns s o (snap_wakes t l) (snap_there s o t x) g (λ u e. snap_woken t l (e ∙ x)) h
+  w_session_acts : (s : State) (o : ℕ) (x : Session) → A (owner_at s o).fate → session_at s o ≡ x → is_enabled_at (session_enabling s x) at.earliest ≡ true → P s → P (session_acts c s o x)
+  w_session_acts s o (session.Transaction t) g e b h = w_txn_acts s o t (waiting_time t t.phase) g e refl b h
+  w_session_acts s o (session.Snapshot t) g e b h = w_snap_line_wakes s o t (waking_line s t.lines) g e refl h
+  w_session_acts s o session.Idle g e b h = h
+  w_session_acts s o (session.Fixing r) g e b h = h
+  w_session_acts s o (session.Register r) g e b h = h
+  w_session_acts s o (session.Settling attempt shards) g e b h = h
 
-  w_txn_acts : (s : State) (o : ℕ) (t : TxnSession) (time : Option ℕ) → A (owner_at s o).fate → session_at s o ≡ session.Transaction t → P s → P (txn_acts c s o t time)
-  w_txn_acts s o t (Some time) g x h = w_txn_turns s o (txn_passes t t.phase) (txn_there s o t x) g (λ u e. txn_passed t (e ∙ x)) h
-  w_txn_acts s o t None g x h = w_txn_line_wakes s o t (waking_line s t.lines) g x h
+  w_owner_acts : (s : State) (o : ℕ) (wait : Option ℕ) → A (owner_at s o).fate → (owner_at s o).works.wait ≡ wait → is_enabled_at (owner_enabling s wait (owner_at s o).session) at.earliest ≡ true → P s → P (owner_acts c s o at wait)
+  w_owner_acts s o (Some time) g e b h = w_waited c at A F P R D k s o time (owner_at s o).works.left g e b refl h
+  w_owner_acts s o None g e b h = w_session_acts s o (owner_at s o).session g refl b h
 
-  w_session_acts : (s : State) (o : ℕ) (x : Session) → A (owner_at s o).fate → session_at s o ≡ x → P s → P (session_acts c s o x)
-  w_session_acts s o (session.Transaction t) g e h = w_txn_acts s o t (waiting_time t t.phase) g e h
-  w_session_acts s o (session.Snapshot t) g e h = w_snap_line_wakes s o t (waking_line s t.lines) g e h
-  w_session_acts s o session.Idle g e h = h
-  w_session_acts s o (session.Fixing r) g e h = h
-  w_session_acts s o (session.Register r) g e h = h
-  w_session_acts s o (session.Settling attempt shards) g e h = h
-
-  w_owner_acts : (s : State) (o : ℕ) (wait : Option ℕ) → A (owner_at s o).fate → (owner_at s o).works.wait ≡ wait → P s → P (owner_acts c s o at wait)
-  w_owner_acts s o (Some time) g e h = w_waited c at A F P R D k s o time (owner_at s o).works.left g e refl h
-  w_owner_acts s o None g e h = w_session_acts s o (owner_at s o).session g refl h
-
-  pub w_acts : (s : State) (n : ℕ) (o : Option ℕ) → (stage_at s n).owner ≡ o → is_live (stage_at s n).life ≡ true → F s → P s → P (acts c s n at o)
-  w_acts s n None e l f h = w_makes s n (next_statement c s n) (record { nobody = e; live = l }) f refl h
-  w_acts s n (Some o) e l f h = w_owner_acts s o (owner_at s o).works.wait (k.acting s n o e h) refl h
+  pub w_acts : (s : State) (n : ℕ) (o : Option ℕ) → (stage_at s n).owner ≡ o → is_live (stage_at s n).life ≡ true → IsActive at s o → F s → P s → P (acts c s n at o)
+  w_acts s n None e l b f h = w_makes s n (next_statement c s n) (record { nobody = e; live = l }) f refl h
+  w_acts s n (Some o) e l b f h = w_owner_acts s o (owner_at s o).works.wait (k.acting s n o e h) refl b h

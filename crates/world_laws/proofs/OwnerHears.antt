@@ -24,12 +24,10 @@ use Rattle.rss_wire.specs.declared.message.Message.{Message}
 use Rattle.world_laws.proofs.Looks.{looks, some_is_not, get_or_past}
 use Rattle.world_laws.proofs.StoreMoves.{IsSent}
 use Rattle.rss_tables.specs.declared.register_session.RegEnd.{RegEnd}
-use Rattle.rss_tables.specs.Lines.{line_at, tells_decision}
+use Rattle.rss_tables.specs.Lines.{tells_decision}
 use Rattle.rss_tables.specs.Losses.{losses_of, reaches_tries, is_quorum_lost}
-use Rattle.rss_tables.specs.Outs.{awaited, line_out, slot_replica, slot_shard}
+use Rattle.rss_tables.specs.Outs.{awaited, line_out, slot_replica}
 use Rattle.rss_tables.specs.RegisterSession.{RegSession, round_requests, session_after, phase_end}
-use Rattle.rss_tables.specs.SnapshotSession.{snap_hears}
-use Rattle.rss_tables.specs.TransactionSession.{txn_hears}
 use Rattle.rss_machine.specs.Calls.{fix_ends, register_ends}
 use Rattle.rss_machine.specs.Effect.{acts, fix_goes_on, register_goes_on, opens_round, stub_settles, owner_hears, reply_comes, target_lost, is_cut_off, asks_again, replaces, loss_counts, loses, least_shard, stub_starts, stub_acts, stub_of_stage}
 use Rattle.rss_machine.specs.Moves.{marks_message, sends, plans_stub, dies, cuts_off, counts_loss, counts_act, listens}
@@ -48,9 +46,10 @@ use Rattle.rss_machine.specs.Refusal.{unless_enabled}
 use Rattle.rss_machine.specs.declared.state.OwnerFate.TheVariants.{Dropped}
 use Rattle.rss_machine.specs.declared.turn.Enabling.TheVariants.{Never}
 use Rattle.world_laws.proofs.Contexts.{copy_holds}
-use Rattle.world_laws.proofs.Doings.{Heard, listened, heard_to, reached_to, plans, txn_heard, snap_heard, listens_one, fix_hears, fix_reached, register_hears, register_stores, counts_one, cuts_one, stub_asks}
+use Rattle.world_laws.proofs.Doings.{Heard, listened, heard_to, reached_to, plans, listens_one, fix_hears, fix_reached, register_hears, register_stores, counts_one, cuts_one, stub_asks}
 use Rattle.world_laws.proofs.SessionMoves.{session_at, IsLost}
-use Rattle.world_laws.proofs.StageMoves.{AllMoves, counts, killed, lost, quiet}
+use Rattle.world_laws.proofs.TurnMoves.{StepMoves, txn_answered, snap_answered}
+use Rattle.world_laws.proofs.StageMoves.{counts, killed, lost, quiet}
 use Rattle.world_laws.specs.Calls.{is_stub}
 use Rattle.rss_machine.specs.declared.state.OwnerFate.{OwnerFate}
 use Rattle.rss_machine.specs.declared.step.StepKind.TheVariants.{Act, Kill}
@@ -60,9 +59,9 @@ use Rattle.rss_machine.specs.Enabling.{live_enabling}
 use Rattle.rss_machine.specs.Refusal.{kind_refusal}
 use Rattle.world_laws.proofs.OwnerMoves.{own_changed, kept_changed, at_own, busy_there, fixing_there, there_own, hears_turn, hears_reach, reach_turn, starts_settling, sends_long, done_phase}
 use Rattle.world_laws.proofs.OwnerWorks.{moves, w_dies, w_loses_stub, w_goes_through, w_waited, w_fix_ends}
-use Rattle.world_laws.proofs.OwnerActs.{w_register_ends, w_txn_turns, w_snap_turns, txn_there, snap_there, w_acts}
+use Rattle.world_laws.proofs.OwnerActs.{IsActive, w_register_ends, w_acts}
 
-module _ (c : Config) (at : Reading) (A : OwnerFate → Type 0) (F P : State → Type 0) (R D : State → ℕ → Type 0) (k : AllMoves c at A F P R D) where
+module _ (c : Config) (at : Reading) (A : OwnerFate → Type 0) (F P : State → Type 0) (R D : State → ℕ → Type 0) (k : StepMoves c at A F P R D) where
   -- messages
   hearing : (s : State) (o slot : ℕ) (r : Reply) → Heard s o slot r → P s → A (owner_at s o).fate
   hearing s o slot r d h = k.heard s o slot (message_at s.net d.number).envelope.exchange d.current h
@@ -72,13 +71,13 @@ module _ (c : Config) (at : Reading) (A : OwnerFate → Type 0) (F P : State →
   w_fix_hears s o slot f r x d None e h =
       let y = session.Fixing (session_after f (slot_replica slot) r) in
       subst P (sym (hears_turn s o slot y (fixing_there s o f x)))
-      (k.does s (with_owner s o (heard_to s o slot y)) o (heard_to s o slot y) [] [] (hearing s o slot r d h) (fix_hears f slot r x d e) (quiet refl refl refl) (kept_changed s o (heard_to s o slot y) refl) h)
+      (k.does s (with_owner s o (heard_to s o slot y)) o (heard_to s o slot y) [] [] (hearing s o slot r d h) (fix_hears f slot r x d e) tt (quiet refl refl refl) (kept_changed s o (heard_to s o slot y) refl) h)
   w_fix_hears s o slot f r x d (Some g) e h =
       subst (λ (t : State). P (fix_ends c t o at (owner_at (listens s o slot) o).works.left)) (sym (hears_reach s o slot y i))
       (w_fix_ends c at A F P R D k (with_owner s o w) o (session_after f (slot_replica slot) r) g (subst A (sym (ap (λ (v : Owner). v.fate) (at_own s o w i))) (hearing s o slot r d h))
       (ap (λ (v : Owner). v.session) (at_own s o w i)) e (ap (λ (v : Owner). v.currents) (at_own s o w i)) (owner_at (listens s o slot) o).works.left
       (ap (λ (v : Owner). v.works.left) (at_own s o w i) ∙ sym (ap (λ (v : Owner). v.works.left) (at_own s o (listened s o slot) i)))
-      (k.does s (with_owner s o w) o w [] [] (hearing s o slot r d h) (fix_reached f slot r g x d e) (quiet refl refl refl) (kept_changed s o w refl) h))
+      (k.does s (with_owner s o w) o w [] [] (hearing s o slot r d h) (fix_reached f slot r g x d e) tt (quiet refl refl refl) (kept_changed s o w refl) h))
     where
       i : o < length s.owners
       i = fixing_there s o f x
@@ -111,20 +110,14 @@ module _ (c : Config) (at : Reading) (A : OwnerFate → Type 0) (F P : State →
       let g = session_after f (slot_replica slot) r in
       let y = session.Register g in
       subst (λ (t : State). P (sends t o (awaited (round_requests g)))) (sym (reach_turn s o slot y (register_there s o f x)))
-      (k.does s (with_owner s o (reached_to s o y)) o (reached_to s o y) (awaited (round_requests g)) [] (hearing s o slot r d h) (register_stores f slot r x d a e) (quiet refl refl refl) (kept_changed s o (reached_to s o y) refl) h)
+      (k.does s (with_owner s o (reached_to s o y)) o (reached_to s o y) (awaited (round_requests g)) [] (hearing s o slot r d h) (register_stores f slot r x d a e) tt (quiet refl refl refl) (kept_changed s o (reached_to s o y) refl) h)
   w_register_hears s o slot f r x d false a None e h =
       let y = session.Register (session_after f (slot_replica slot) r) in
       subst P (sym (hears_turn s o slot y (register_there s o f x)))
-      (k.does s (with_owner s o (heard_to s o slot y)) o (heard_to s o slot y) [] [] (hearing s o slot r d h) (register_hears f slot r x d a e) (quiet refl refl refl) (kept_changed s o (heard_to s o slot y) refl) h)
+      (k.does s (with_owner s o (heard_to s o slot y)) o (heard_to s o slot y) [] [] (hearing s o slot r d h) (register_hears f slot r x d a e) tt (quiet refl refl refl) (kept_changed s o (heard_to s o slot y) refl) h)
 
   w_listens : (s : State) (o slot : ℕ) (r : Reply) → Heard s o slot r → P s → P (listens s o slot)
-  w_listens s o slot r d h = k.does s (listens s o slot) o (listened s o slot) [] [] (hearing s o slot r d h) (listens_one slot r d) (quiet refl refl refl) (kept_changed s o (listened s o slot) refl) h
-
-  listens_fate : (s : State) (o slot : ℕ) → (owner_at (listens s o slot) o).fate ≡ (owner_at s o).fate
-  listens_fate s o slot = grind (arith, looks)
-
-  listens_session : (s : State) (o slot : ℕ) → session_at (listens s o slot) o ≡ session_at s o
-  listens_session s o slot = grind (arith, looks)
+  w_listens s o slot r d h = k.does s (listens s o slot) o (listened s o slot) [] [] (hearing s o slot r d h) (listens_one slot r d) tt (quiet refl refl refl) (kept_changed s o (listened s o slot) refl) h
 
   settling_there : (s : State) (o : ℕ) (attempt : Attempt) (shards : List ℕ) → session_at s o ≡ session.Settling attempt shards → o < length s.owners
   settling_there s o attempt shards e = busy_there s o (session.Settling attempt shards) e refl
@@ -160,12 +153,8 @@ module _ (c : Config) (at : Reading) (A : OwnerFate → Type 0) (F P : State →
   w_owner_hears : (s : State) (o slot : ℕ) (r : Reply) → Heard s o slot r → (x : Session) → session_at s o ≡ x → P s → P (owner_hears c (listens s o slot) o slot at r x)
   w_owner_hears s o slot r d (session.Fixing f) e h = w_fix_hears s o slot f r e d (phase_end (session_after f (slot_replica slot) r).phase) refl h
   w_owner_hears s o slot r d (session.Register f) e h = w_register_hears s o slot f r e d (opens_round f.phase (session_after f (slot_replica slot) r).phase) refl (phase_end (session_after f (slot_replica slot) r).phase) refl h
-  w_owner_hears s o slot r d (session.Transaction t) e h =
-      w_txn_turns c at A F P R D k (listens s o slot) o (txn_hears t (line_at t.lines (slot_shard slot)) at r) (there_own s o (listened s o slot) (txn_there c at A F P R D k s o t e)) (subst A (sym (listens_fate s o slot)) (hearing s o slot r d h))
-      (λ u i. txn_heard t (line_at t.lines (slot_shard slot)) at r (i ∙ (listens_session s o slot ∙ e))) (w_listens s o slot r d h)
-  w_owner_hears s o slot r d (session.Snapshot t) e h =
-      w_snap_turns c at A F P R D k (listens s o slot) o (snap_hears t (line_at t.lines (slot_shard slot)) r) (there_own s o (listened s o slot) (snap_there c at A F P R D k s o t e)) (subst A (sym (listens_fate s o slot)) (hearing s o slot r d h))
-      (λ u i. snap_heard t (line_at t.lines (slot_shard slot)) r (i ∙ (listens_session s o slot ∙ e))) (w_listens s o slot r d h)
+  w_owner_hears s o slot r d (session.Transaction t) e h = k.turns s _ o (hearing s o slot r d h) (txn_answered t slot r e d) h
+  w_owner_hears s o slot r d (session.Snapshot t) e h = k.turns s _ o (hearing s o slot r d h) (snap_answered t slot r e d) h
   w_owner_hears s o slot r d (session.Settling attempt shards) e h = w_stub_hears s o slot attempt shards e r d h
   w_owner_hears s o slot r d session.Idle e h = w_listens s o slot r d h
 
@@ -182,7 +171,7 @@ module _ (c : Config) (at : Reading) (A : OwnerFate → Type 0) (F P : State →
   w_target_lost s o target (kind.Stubbing u) g e h = w_loses_stub c at A F P R D k s o target g (ap is_stub e) h
 
   w_cuts_off : (s : State) (o : ℕ) (service : ServiceId) (replica : ℕ) → A (owner_at s o).fate → P s → P (cuts_off s o (Replica service replica))
-  w_cuts_off s o service replica g h = k.does s (cuts_off s o (Replica service replica)) o _ [] [] g (cuts_one service replica) (quiet refl refl refl) (kept_changed s o _ refl) h
+  w_cuts_off s o service replica g h = k.does s (cuts_off s o (Replica service replica)) o _ [] [] g (cuts_one service replica) tt (quiet refl refl refl) (kept_changed s o _ refl) h
 
   cut_fate : (s : State) (o : ℕ) (target : Target) → (owner_at (cuts_off s o target) o).fate ≡ (owner_at s o).fate
   cut_fate s o target = grind (arith, looks)
@@ -211,7 +200,7 @@ module _ (c : Config) (at : Reading) (A : OwnerFate → Type 0) (F P : State →
   w_loss_counts : (s : State) (o : ℕ) (e : Envelope) → A (owner_at s o).fate → IsLost s o e.exchange e.target → P s → P (loss_counts c s o e)
   w_loss_counts s o e g d h =
       let t = counts_loss s o e.target in
-      let q : P t = k.does s t o _ [] [] g (counts_one e.target) (quiet refl refl refl) (kept_changed s o _ refl) h in
+      let q : P t = k.does s t o _ [] [] g (counts_one e.target) tt (quiet refl refl refl) (kept_changed s o _ refl) h in
       cond_both (reaches_tries c.tries (owner_at s o).losses e.target) _ _ P
       (λ r. w_is_cut_off t o e.target (subst A (sym (counted_fate s o e.target)) g) q)
       (λ f. cond_both (nat_lt (losses_of (owner_at t o).losses e.target) c.tries) _ t P (λ r. w_replaces t o e.target e.exchange (record { number = d.number; by = d.by; numbered = d.numbered; sent = d.sent; of = d.of; to = d.to }) (slot_in (owner_at t o).currents e.exchange) refl q) (λ g. q))
@@ -243,23 +232,27 @@ module _ (c : Config) (at : Reading) (A : OwnerFate → Type 0) (F P : State →
       let w = record (owner_at s o) { started = true; session = x } in
       let outs = line_out (least_shard u.1) (request.Decide u.0 false 0) ∷ [] in
       subst (λ (t : State). P (sends t o outs)) (sym (starts_settling s o x (kind_there s o (Some u) e)))
-      (k.does s (with_owner s o w) o w outs [] g (stub_asks u.0 u.1 e b) (quiet refl refl refl) (kept_changed s o w refl) h)
+      (k.does s (with_owner s o w) o w outs [] g (stub_asks u.0 u.1 e b) tt (quiet refl refl refl) (kept_changed s o w refl) h)
   w_stub_starts s o (kind.Stubbing None) g e b h =
       let w = record (owner_at s o) { started = true; session = session.Idle; works = planned (owner_at s o).works.copy (plan_all (owner_at s o).works.copy) } in
       let i = kind_there s o None e in
       w_goes_through c at A F P R D k (plans_stub s o) o (owner_at (plans_stub s o) o).works.left (there_own s o w i) refl
-      (k.rests s (plans_stub s o) o w i g (plans e b) (quiet refl refl refl) (own_changed s o w _ (λ G a. copy_holds G s o a)) h)
+      (k.rests s (plans_stub s o) o w i g (plans e b) tt (quiet refl refl refl) (own_changed s o w _ (λ G a. copy_holds G s o a)) h)
   w_stub_starts s o (kind.Calling x) g e b h = h
   w_stub_starts s o kind.Fencing g e b h = h
 
+  enabled : (b : Bool) → unless_enabled b ≡ None → b ≡ true
+  enabled true e = refl
+  enabled false e = absurd (some_is_not _ e)
+
   -- a stub that has started goes on where its works wait
-  started_waits : (wait : Option ℕ) → unless_enabled (is_enabled_at (stub_waits true wait) at.earliest) ≡ None → (time : ℕ) × (wait ≡ Some time)
+  started_waits : (wait : Option ℕ) → unless_enabled (is_enabled_at (stub_waits true wait) at.earliest) ≡ None → (time : ℕ) × (wait ≡ Some time) × (nat_lt time at.earliest ≡ true)
   started_waits None e = absurd (some_is_not _ e)
-  started_waits (Some time) e = (time, refl)
+  started_waits (Some time) e = (time, refl, enabled (nat_lt time at.earliest) e)
 
   w_stub_acts : (s : State) (o : ℕ) (b : Bool) → A (owner_at s o).fate → (owner_at s o).started ≡ b → unless_enabled (is_enabled_at (stub_waits b (owner_at s o).works.wait) at.earliest) ≡ None → P s → P (stub_acts c s o at b)
   w_stub_acts s o false g e q h = w_stub_starts s o (owner_at s o).kind g refl e h
-  w_stub_acts s o true g e q h = let w = started_waits (owner_at s o).works.wait q in w_waited c at A F P R D k s o w.0 (owner_at s o).works.left g w.1 refl h
+  w_stub_acts s o true g e q h = let w = started_waits (owner_at s o).works.wait q in w_waited c at A F P R D k s o w.0 (owner_at s o).works.left g w.1 w.2 refl h
 
   stub_runs : (s : State) (o : ℕ) (b : Bool) → unless_enabled (is_enabled_at (if b then stub_waits (owner_at s o).started (owner_at s o).works.wait else Never) at.earliest) ≡ None → unless_enabled (is_enabled_at (stub_waits (owner_at s o).started (owner_at s o).works.wait) at.earliest) ≡ None
   stub_runs s o true e = e
@@ -279,6 +272,15 @@ module _ (c : Config) (at : Reading) (A : OwnerFate → Type 0) (F P : State →
   live_acts n s false true x e = refl
   live_acts n s false false x e = absurd (some_is_not _ e)
 
+  act_enabled : (n : ℕ) (s : State) (over live : Bool) (x : Enabling) → (if over then Some StageOver else unless_enabled (is_enabled_at (if live then x else Never) at.earliest)) ≡ None → is_enabled_at x at.earliest ≡ true
+  act_enabled n s true live x e = absurd (some_is_not _ e)
+  act_enabled n s false true x e = enabled (is_enabled_at x at.earliest) e
+  act_enabled n s false false x e = absurd (some_is_not _ e)
+
+  active : (s : State) (n : ℕ) (o : Option ℕ) → is_enabled_at (live_enabling c s n o) at.earliest ≡ true → IsActive at (counts_act s n) o
+  active s n None e = tt
+  active s n (Some o) e = e
+
   live_dies : (over live : Bool) → (if over then Some StageOver else unless_enabled live) ≡ None → live ≡ true
   live_dies true live e = absurd (some_is_not _ e)
   live_dies false true e = refl
@@ -293,6 +295,7 @@ module _ (c : Config) (at : Reading) (A : OwnerFate → Type 0) (F P : State →
   pub w_act : (s : State) (n : ℕ) → kind_refusal c s at (Act n) ≡ None → F s → P s → P (acts c (counts_act s n) n at (stage_at s n).owner)
   w_act s n e f h =
       w_acts c at A F P R D k (counts_act s n) n (stage_at s n).owner (act_owner s n) (ap is_live (act_life s n) ∙ live_acts n s (is_over (stage_at s n).life) (is_live (stage_at s n).life) (live_enabling c s n (stage_at s n).owner) e)
+      (active s n (stage_at s n).owner (act_enabled n s (is_over (stage_at s n).life) (is_live (stage_at s n).life) (live_enabling c s n (stage_at s n).owner) e))
       (k.counted s n f) (moves c at A F P R D k s n _ s.history (counts n) refl h)
 
   pub w_lose : (s : State) (m : ℕ) → IsSent s m → P s → P (loses c (marks_message s m fate.Lost) (message_at s.net m).envelope)

@@ -49,11 +49,12 @@ use Rattle.world_laws.specs.Contexts.{AllDeps, StageHolds, PipeHolds}
 use Rattle.world_laws.proofs.Contexts.{fenced_hold, stage_holds, stages_hold, copy_holds, pipe_holds}
 use Rattle.world_laws.proofs.Doings.{Changed, fence_ended, turned, launched, fix_session, past, fixed, cleared, owes_nothing, is_past, enters_own, waits, fixes_work, fixes_own, asks_register, stamps_register, begins_snapshot, begins_txn, fence_done, stub_done, is_closed}
 use Rattle.world_laws.proofs.SessionMoves.{session_at}
-use Rattle.world_laws.proofs.StageMoves.{AllMoves, StageMove, closes_one, cuts_off_one, is_over, exit_given, Giving, own, by_stub, Making, Dying, quiet}
+use Rattle.world_laws.proofs.TurnMoves.{StepMoves}
+use Rattle.world_laws.proofs.StageMoves.{StageMove, closes_one, cuts_off_one, is_over, exit_given, Giving, own, by_stub, Making, Dying, quiet}
 use Rattle.world_laws.specs.Calls.{is_stub}
 use Rattle.world_laws.proofs.OwnerMoves.{stage_changed, pipe_changed, stage_kept, own_changed, kept_changed, ends_changed, at_own, waiting_there, fixing_there, there_own, IsReady, ready, Lies}
 
-module _ (c : Config) (at : Reading) (A : OwnerFate → Type 0) (F P : State → Type 0) (R D : State → ℕ → Type 0) (k : AllMoves c at A F P R D) where
+module _ (c : Config) (at : Reading) (A : OwnerFate → Type 0) (F P : State → Type 0) (R D : State → ℕ → Type 0) (k : StepMoves c at A F P R D) where
   -- stages, and pipes
   pub stage : (s : State) (stages : List Stage) (history : List Entry) → StageMove c s (record s { stages = stages; history = history }) → ((G : Dep → Type 0) → AllDeps G s → All (StageHolds G) stages) → P s → P (record s { stages = stages; history = history })
   stage s stages history y f p = k.stages s (record s { stages = stages; history = history }) y (stage_changed s stages history f) p
@@ -109,7 +110,7 @@ module _ (c : Config) (at : Reading) (A : OwnerFate → Type 0) (F P : State →
   pub w_loses_stub : (s : State) (o : ℕ) (target : Target) → A (owner_at s o).fate → is_stub (owner_at s o).kind ≡ true → P s → P (loses_stub c s o target)
   w_loses_stub s o target a e h =
       w_cuts_from _ _ _ c.pipe_ends
-      (k.does s (with_owner s o (closed s o (CutOff target))) o (closed s o (CutOff target)) [] [] a (is_closed (CutOff target)) (record { target = target; stub = e; cut = refl }, quiet refl refl refl) (kept_changed s o (closed s o (CutOff target)) refl) h)
+      (k.does s (with_owner s o (closed s o (CutOff target))) o (closed s o (CutOff target)) [] [] a (is_closed (CutOff target)) tt (record { target = target; stub = e; cut = refl }, quiet refl refl refl) (kept_changed s o (closed s o (CutOff target)) refl) h)
 
   -- works
   w_ends_stub : (s : State) (o : ℕ) (u : Option (Attempt × List ℕ)) → o < length s.owners → (owner_at s o).works.left ≡ [] → (owner_at s o).kind ≡ kind.Stubbing u → R s o → P (ends_stub c s o)
@@ -213,12 +214,12 @@ module _ (c : Config) (at : Reading) (A : OwnerFate → Type 0) (F P : State →
   w_goes_through s o ((id, Fix) ∷ works) i l h = w_fixes_work s o id works i l h
 
   -- the time that an owner waits for has passed
-  pub w_waited : (s : State) (o time : ℕ) (works : List (ServiceId × FenceWork)) → A (owner_at s o).fate → (owner_at s o).works.wait ≡ Some time → (owner_at s o).works.left ≡ works → P s → P (ends_work c s o at works)
-  w_waited s o time [] a e l h = h
-  w_waited s o time ((id, x) ∷ works) a e l h =
+  pub w_waited : (s : State) (o time : ℕ) (works : List (ServiceId × FenceWork)) → A (owner_at s o).fate → (owner_at s o).works.wait ≡ Some time → nat_lt time at.earliest ≡ true → (owner_at s o).works.left ≡ works → P s → P (ends_work c s o at works)
+  w_waited s o time [] a e b l h = h
+  w_waited s o time ((id, x) ∷ works) a e b l h =
       let i = waiting_there s o time e in
       w_goes_through (fence_ends s o id) o works (there_own s o (fence_ended s o id) i) (left_rest s o id x works i l)
-      (k.rests s (fence_ends s o id) o (fence_ended s o id) i a (past id x works time l e) (quiet refl refl refl) (fence_changed s o id) h)
+      (k.rests s (fence_ends s o id) o (fence_ended s o id) i a (past id x works time l e) b (quiet refl refl refl) (fence_changed s o id) h)
 
   w_cleared : (s : State) (o : ℕ) (r : RegSession) (e : RegEnd) → A (owner_at s o).fate → session_at s o ≡ session.Fixing r → phase_end r.phase ≡ Some e → (owner_at s o).currents ≡ no_currents → (owner_at s o).works.left ≡ [] → (x : OwnerKind) → (owner_at s o).kind ≡ x → P s → P (launches_cleared c (clears s o) o at x)
   w_cleared s o r e g a b d l x f h = by_kind x f
@@ -230,7 +231,7 @@ module _ (c : Config) (at : Reading) (A : OwnerFate → Type 0) (F P : State →
       w = record (owner_at s o) { works = record (owner_at s o).works { copy = deps_cleared (owner_at s o).works.copy }; session = session.Idle }
 
       rested : R (with_owner s o w) o
-      rested = k.rests s (with_owner s o w) o w i g (cleared r e l a b d) (quiet refl refl refl) (own_changed s o w s.planned (λ G n. All-nil G)) h
+      rested = k.rests s (with_owner s o w) o w i g (cleared r e l a b d) tt (quiet refl refl refl) (own_changed s o w s.planned (λ G n. All-nil G)) h
 
       by_kind : (x : OwnerKind) → (owner_at s o).kind ≡ x → P (launches_cleared c (clears s o) o at x)
       by_kind (kind.Calling y) f =
@@ -247,4 +248,4 @@ module _ (c : Config) (at : Reading) (A : OwnerFate → Type 0) (F P : State →
   w_fix_ends s o r e g a b d ((id, x) ∷ works) l h =
       let i = fixing_there s o r a in
       w_goes_through (fence_ends s o id) o works (there_own s o (fence_ended s o id) i) (left_rest s o id x works i l)
-      (k.rests s (fence_ends s o id) o (fence_ended s o id) i g (fixed id x works r e l a b d) (quiet refl refl refl) (fence_changed s o id) h)
+      (k.rests s (fence_ends s o id) o (fence_ended s o id) i g (fixed id x works r e l a b d) tt (quiet refl refl refl) (fence_changed s o id) h)
