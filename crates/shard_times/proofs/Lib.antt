@@ -1,0 +1,11 @@
+pub mod Newest
+pub mod Found
+pub mod Orderly
+pub mod Stays
+pub mod Wrote
+pub mod Applies
+pub mod Releases
+pub mod Order
+pub mod Fresh
+pub mod Prepares
+pub mod Holders

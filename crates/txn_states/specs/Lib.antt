@@ -1,0 +1,10 @@
+pub mod Files
+pub mod Replied
+pub mod Framed
+pub mod Awaited
+pub mod Told
+pub mod Justified
+pub mod Decided
+pub mod Orderly
+pub mod Voted
+pub mod Closed
