@@ -48,3 +48,7 @@ pub record SameSnap (t u : SnapSession) : Type 0 where
   pub keys : u.keys ≡ t.keys
   pub least : u.least ≡ t.least
   pub frames : frames_of u.lines ≡ frames_of t.lines
+
+-- no two lines are on one shard
+abbrev pub AreApartShards : List Line → Type 0
+AreApartShards lines = (i j : ℕ) → i < length lines → j < length lines → (nth_line lines i).shard ≡ (nth_line lines j).shard → i ≡ j

@@ -123,7 +123,7 @@ pub record SettlesTo (s t : State) (o : ℕ) (x : Session) (outs : List Out) : T
 
 -- one event
 pub data Event (c : Config) (at : Reading) (s t : State) : Type 0 where
-  aside : Aside s t → Event c at s t
+  aside : Aside c s t → Event c at s t
   begins_txn : (o : ℕ) (reads : List Key) (guard : Option (Compare ℕ)) (writes : List (Key × Expr ℕ)) (x : TxnSession) → (owner_at s o).kind ≡ kind.Calling (op.Txn reads guard writes)
       → x ≡ opening_txn (home_of c) o reads guard writes (least_for s o (service_of (op.Txn reads guard writes))) (body_of c (owner_at s o).stage).earliest_end
       → Launches s t o (session.Transaction x) (txn_starts x).outs → Event c at s t

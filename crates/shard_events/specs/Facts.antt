@@ -3,6 +3,8 @@ use Rattle.std.specs.Prelude.{◌≡◌, ◌⊎◌, ℕ, ◌<◌, ◌≤◌, ◌
 use Rattle.rss_names.specs.declared.attempt.Attempt.{Attempt}
 use Rattle.rss_names.specs.declared.service.Target.{Target}
 use Rattle.rss_names.specs.declared.service.Target.TheVariants.{Shard, Replica}
+use Rattle.pipeline_lang.specs.declared.config.Config.{Config}
+use Rattle.rss_model.specs.declared.op.Op.{Op}
 use Rattle.rss_wire.specs.Messages.{message_at}
 use Rattle.rss_wire.specs.declared.message.Body.TheVariants as body
 use Rattle.rss_wire.specs.declared.message.Message.{Message}
@@ -16,6 +18,7 @@ use Rattle.rss_machine.specs.Standing.{is_running}
 use Rattle.rss_machine.specs.State.{State, Owner, owner_at}
 use Rattle.rss_machine.specs.declared.session.OwnerKind.TheVariants as kind
 use Rattle.rss_machine.specs.declared.session.Session.TheVariants as session
+use Rattle.world_laws.specs.Scripted.{IsScripted}
 use Rattle.rss_machine.specs.declared.state.OwnerFate.TheVariants.{Ended}
 
 -- whether what an owner has under way is with shards
@@ -98,10 +101,11 @@ pub record IsLeft (s : State) (attempt : Attempt) (shards : List ℕ) : Type 0 w
   pub attempt_is : attempt ≡ attempt_of txn
   pub shards_are : shards ≡ shards_of txn.lines
 
--- an owner that begins has nothing under way with shards; a stub may have to settle what its stage leaves
-pub record IsNew (s : State) (w : Owner) : Type 0 where
+-- an owner that begins has nothing under way with shards; a call is of its stage's script, and a stub may have to settle what its stage leaves
+pub record IsNew (c : Config) (s : State) (w : Owner) : Type 0 where
   pub none : is_with_shards w.session ≡ false
   pub begun : w.dates.begun ≡ s.steps
+  pub made : (x : Op) → w.kind ≡ kind.Calling x → IsScripted c w.stage x
   pub left : (attempt : Attempt) (shards : List ℕ) → w.kind ≡ kind.Stubbing (Some (attempt, shards)) → IsLeft s attempt shards
 
 -- whether a target is a replica
@@ -110,11 +114,11 @@ is_replica (Shard shard) = false
 is_replica (Replica service replica) = true
 
 -- nothing happens to transactions, snapshots and shards, but that some are closed
-pub record Aside (s t : State) : Type 0 where
+pub record Aside (c : Config) (s t : State) : Type 0 where
   pub same : SameShards s t
   pub long : length s.owners ≤ length t.owners
   pub with_shards : (o : ℕ) → o < length s.owners → is_with_shards (owner_at s o).session ≡ true → StaysWith s.steps (owner_at s o) (owner_at t o)
   pub without : (o : ℕ) → o < length s.owners → is_with_shards (owner_at s o).session ≡ false → StaysWithout (owner_at s o) (owner_at t o)
-  pub anew : (o : ℕ) → length s.owners ≤ o → o < length t.owners → IsNew s (owner_at t o)
+  pub anew : (o : ℕ) → length s.owners ≤ o → o < length t.owners → IsNew c s (owner_at t o)
   pub net : NetGrows s t
   pub sent : (m : ℕ) → length s.net ≤ m → m < length t.net → is_replica (message_at t.net m).envelope.target ≡ true

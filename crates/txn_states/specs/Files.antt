@@ -1,5 +1,5 @@
 -- Files whose scripts name keys of the file's transaction services.
-use Rattle.std.specs.Prelude.{◌≡◌, ⊤, ℕ, ◌≤◌, List, [], ◌∷◌, ◌++◌, length, map, Option, Some, IsTrue}
+use Rattle.std.specs.Prelude.{◌≡◌, ℕ, ◌≤◌, Bool, true, false, List, [], ◌∷◌, ◌++◌, length, map, Option, Some, IsTrue}
 use Rattle.std.proofs.Common.{All}
 use Rattle.rss_names.specs.declared.service.Key.{Key}
 use Rattle.pipeline_lang.specs.Config.{home_of, statement_at}
@@ -36,9 +36,32 @@ statement_keys (statement.When test) = []
 statement_keys statement.End = []
 statement_keys statement.Exit = []
 
+-- a snapshot and a transaction name a key at least
+abbrev pub is_some_key : List Key → Bool
+is_some_key [] = false
+is_some_key (key ∷ keys) = true
+
+abbrev pub names_some : Statement ℕ Key ℕ ℕ → Bool
+names_some (statement.Snap pairs) = is_some_key (statement_keys (statement.Snap pairs))
+names_some (statement.Txn reads guard writes) = is_some_key (statement_keys (statement.Txn reads guard writes))
+names_some (statement.Read variable key) = true
+names_some (statement.Write key value) = true
+names_some (statement.Let variable value) = true
+names_some (statement.Spawn child) = true
+names_some (statement.Wait child) = true
+names_some (statement.Put p value) = true
+names_some (statement.Take variable p) = true
+names_some (statement.Close p) = true
+names_some statement.Fence = true
+names_some (statement.Repeat times) = true
+names_some (statement.When test) = true
+names_some statement.End = true
+names_some statement.Exit = true
+
 -- each key that a script names is one of the file; snapshots and transactions name some
 pub record NamesKeys (c : Config) : Type 0 where
   pub statements : (n place : ℕ) → All (IsKey c) (statement_keys (statement_at c n place))
+  pub some : (n place : ℕ) → names_some (statement_at c n place) ≡ true
 
 -- the keys of an operation on a transaction service
 abbrev pub op_keys : Op → List Key
@@ -46,3 +69,14 @@ op_keys (op.Snap keys) = keys
 op_keys (op.Txn reads guard writes) = reads ++ map (λ write. write.0) writes
 op_keys (op.Read key) = []
 op_keys (op.Write key value) = []
+
+-- each is one of the file, and a snapshot or a transaction has one at least
+abbrev pub op_names_some : Op → Bool
+op_names_some (op.Snap keys) = is_some_key keys
+op_names_some (op.Txn reads guard writes) = is_some_key (reads ++ map (λ write. write.0) writes)
+op_names_some (op.Read key) = true
+op_names_some (op.Write key value) = true
+
+pub record OpNamed (c : Config) (x : Op) : Type 0 where
+  pub keys : All (IsKey c) (op_keys x)
+  pub some : op_names_some x ≡ true

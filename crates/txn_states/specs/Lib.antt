@@ -8,3 +8,4 @@ pub mod Decided
 pub mod Orderly
 pub mod Voted
 pub mod Closed
+pub mod Onward
