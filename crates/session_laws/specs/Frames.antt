@@ -26,6 +26,10 @@ pub record IsLine (lines : List Line) (l : Line) : Type 0 where
   pub inside : place < length lines
   pub at : nth_line lines place ≡ l
 
+-- no two lines have the same shard
+abbrev pub AreApartShards : List Line → Type 0
+AreApartShards lines = (i j : ℕ) → i < length lines → j < length lines → (nth_line lines i).shard ≡ (nth_line lines j).shard → i ≡ j
+
 -- the lines of a transaction are those of its keys
 pub record HasTxnFrames (home : ℕ → ℕ) (t : TxnSession) : Type 0 where
   pub frames : frames_of t.lines ≡ frames_of (lines_of home t.reads (written_keys t.writes))
@@ -48,7 +52,3 @@ pub record SameSnap (t u : SnapSession) : Type 0 where
   pub keys : u.keys ≡ t.keys
   pub least : u.least ≡ t.least
   pub frames : frames_of u.lines ≡ frames_of t.lines
-
--- no two lines are on one shard
-abbrev pub AreApartShards : List Line → Type 0
-AreApartShards lines = (i j : ℕ) → i < length lines → j < length lines → (nth_line lines i).shard ≡ (nth_line lines j).shard → i ≡ j
