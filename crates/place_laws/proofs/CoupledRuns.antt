@@ -44,7 +44,7 @@ use Rattle.reg_laws.proofs.Agree.{agree_under, agree_run}
 use Rattle.reg_laws.proofs.Awaiting.{Awaiting, AtRest as AwaitsAtRest}
 use Rattle.reg_laws.proofs.Rounds.{Settled, SettledAt, settled_kept, settled_run}
 use Rattle.place_laws.specs.Alone.{KeepsToServices}
-use Rattle.place_laws.proofs.Beside.{beside}
+use Rattle.world_laws.proofs.Beside.{beside}
 use Rattle.place_laws.proofs.Coupling.{place_of, IsHeld, OnlyLast, Coupled}
 use Rattle.place_laws.proofs.CoupledMoves.{Tells, service_at}
 use Rattle.place_laws.proofs.CoupledOwners.{Knows}

@@ -8,7 +8,6 @@ pub mod Coupling
 pub mod CoupledOwners
 pub mod CoupledMoves
 pub mod CoupledWalk
-pub mod Beside
 pub mod CoupledRuns
 pub mod Dependencies
 pub mod Ended

@@ -1,0 +1,9 @@
+pub mod Sending
+pub mod Asides
+pub mod Clocks
+pub mod TurnEvents
+pub mod MoveEvents
+pub mod OwnerEvents
+pub mod ShardTurns
+pub mod Walk
+pub mod Runs

@@ -1,3 +1,4 @@
 pub mod Facts
 pub mod Events
 pub mod Known
+pub mod Steps

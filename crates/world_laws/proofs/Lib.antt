@@ -33,6 +33,7 @@ pub mod OwnerWorks
 pub mod OwnerActs
 pub mod OwnerHears
 pub mod OwnerWalk
+pub mod Beside
 pub mod ToldRuns
 pub mod ToldSteps
 pub mod ToldLaws

@@ -1,0 +1,6 @@
+pub mod Grows
+pub mod InOrder
+pub mod Replies
+pub mod Serves
+pub mod Keeps
+pub mod Starts
