@@ -9,3 +9,6 @@ pub mod Orderly
 pub mod Voted
 pub mod Closed
 pub mod Onward
+pub mod Passed
+pub mod Dated
+pub mod Fresh
