@@ -1,0 +1,2 @@
+pub mod Unreleased
+pub mod Laws
