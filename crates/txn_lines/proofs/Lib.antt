@@ -1,1 +1,4 @@
 pub mod Commits
+pub mod Facts
+pub mod Stands
+pub mod Sees

@@ -1,0 +1,12 @@
+pub mod Grows
+pub mod Heard
+pub mod Replies
+pub mod Turned
+pub mod Learnt
+pub mod DecidedKeeps
+pub mod JustStays
+pub mod Asked
+pub mod CalmKeeps
+pub mod TurnsJust
+pub mod JustKeeps
+pub mod Starts
