@@ -10,7 +10,7 @@ use Rattle.rss_tables.specs.Versions.{versions_of, opening_version, newest_versi
 use Rattle.shard_laws.specs.Closed.{EachOf, AreRising, writes_key}
 use Rattle.shard_laws.specs.Served.{IsReached}
 use Rattle.shard_laws.specs.Snapshots.{ClosesAt}
-use Rattle.shard_laws.proofs.Rising.{rising_reached}
+use Rattle.shard_laws.proofs.Closes.{rising}
 use Rattle.shard_times.proofs.Newest.{newest_shows, shows_earlier}
 use Rattle.shard_times.proofs.Order.{closed_before, closed_writers, closed_version, closed_upto}
 use Rattle.txn_lines.proofs.Stands.{Stands, stands_prepared, stands_applied}
@@ -44,28 +44,13 @@ by_closed sh x key time v c w value t d = by_time (cases_lt time t)
 by_newest : (sh : Shard) → IsReached sh → (key : Key) (v : Version) → v ≡ newest_version sh.store key → (w value t time : ℕ) → ClosesAt sh key t record { value = value; time = t; writer = w } → StandsAgainst w value t time v
 by_newest sh x key v e w value t time d = by_time (cases_lt v.time t)
   where
-    vs : List Version
-    vs = versions_of sh.store key
-
-    rising : AreRising (versions_of sh.store key)
-    rising = rising_reached sh x key
-
-    shows : (n : ℕ) → (newest_version sh.store key).time ≤ n → version_at sh.store key n ≡ newest_version sh.store key
-    shows n l = newest_shows n (versions_of sh.store key) opening_version (rising_reached sh x key) l
-
-    late : v.time < t → ◌≡◌ {A = Version} (record { value = value; time = t; writer = w }) v
-    late l = sym d.shows ∙ (newest_shows t (versions_of sh.store key) opening_version (rising_reached sh x key) (let f = ap (λ (u : Version). u.time) e in omega (arith, f, l)) ∙ sym e)
-
-    at_own : version_at sh.store key v.time ≡ v
-    at_own = newest_shows v.time (versions_of sh.store key) opening_version (rising_reached sh x key) (let f = ap (λ (u : Version). u.time) e in omega (arith, f)) ∙ sym e
-
     by_earlier : (t < (version_at sh.store key v.time).time) ⊎ (version_at sh.store key t ≡ version_at sh.store key v.time) → StandsAgainst w value t time v
-    by_earlier (inl l) = is_earlier (subst (λ (u : Version). t < u.time) (newest_shows v.time (versions_of sh.store key) opening_version (rising_reached sh x key) (let f = ap (λ (u : Version). u.time) e in omega (arith, f)) ∙ sym e) l)
-    by_earlier (inr f) = is_shown (sym d.shows ∙ f ∙ (newest_shows v.time (versions_of sh.store key) opening_version (rising_reached sh x key) (let g = ap (λ (u : Version). u.time) e in omega (arith, g)) ∙ sym e))
+    by_earlier (inl l) = is_earlier (subst (λ (u : Version). t < u.time) (newest_shows v.time (versions_of sh.store key) opening_version (rising sh x key) (let f = ap (λ (u : Version). u.time) e in omega (arith, f)) ∙ sym e) l)
+    by_earlier (inr f) = is_shown (sym d.shows ∙ f ∙ (newest_shows v.time (versions_of sh.store key) opening_version (rising sh x key) (let g = ap (λ (u : Version). u.time) e in omega (arith, g)) ∙ sym e))
 
     by_time : (v.time < t) ⊎ (t ≤ v.time) → StandsAgainst w value t time v
-    by_time (inl l) = is_shown (sym d.shows ∙ (newest_shows t (versions_of sh.store key) opening_version (rising_reached sh x key) (let f = ap (λ (u : Version). u.time) e in omega (arith, f, l)) ∙ sym e))
-    by_time (inr l) = by_earlier (shows_earlier t v.time l (versions_of sh.store key) opening_version (rising_reached sh x key))
+    by_time (inl l) = is_shown (sym d.shows ∙ (newest_shows t (versions_of sh.store key) opening_version (rising sh x key) (let f = ap (λ (u : Version). u.time) e in omega (arith, f, l)) ∙ sym e))
+    by_time (inr l) = by_earlier (shows_earlier t v.time l (versions_of sh.store key) opening_version (rising sh x key))
 
 -- each writer but the reader itself
 pub stands_against : (sh : Shard) → IsReached sh → (key : Key) (o time : ℕ) (v : Version) → Sees sh key o time v → (w value t : ℕ) → (w ≡ o → ⊥) → Stands sh key w value t → StandsAgainst w value t time v
