@@ -1,0 +1,15 @@
+pub mod Heard
+pub mod Named
+pub mod Owners
+pub mod Framed
+pub mod FramedTurns
+pub mod Starts
+pub mod Currents
+pub mod Requests
+pub mod Led
+pub mod TxnAwaits
+pub mod SnapAwaits
+pub mod Awaited
+pub mod AwaitedKeeps
+pub mod LedKeeps
+pub mod UnderWay

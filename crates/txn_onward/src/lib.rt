@@ -1,0 +1,7 @@
+//! Theory: how transactions and snapshots go on with every event, and what their lines were told.
+//! Each law is the contract of a function that does nothing.
+#![tactic(auto)]
+
+mod laws;
+
+pub use laws::{lines_are_told, other_lines_are_dropped, sessions_go_on};
