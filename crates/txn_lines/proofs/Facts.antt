@@ -34,6 +34,8 @@ use Rattle.txn_states.specs.Fresh.{AllFresh}
 use Rattle.txn_states.specs.Orderly.{AllOrderly}
 use Rattle.txn_states.specs.Told.{AllTold}
 use Rattle.txn_states.specs.Voted.{AllVoted}
+use Rattle.txn_dates.specs.Entered.{AllEntered}
+use Rattle.fence_laws.specs.Laws.{MomentsRise}
 use Rattle.txn_orders.proofs.Grows.{one_txn, present_is, coordinator_first}
 use Rattle.txn_closes.proofs.Grows.{txn_is}
 use Rattle.txn_lines.proofs.Commits.{DecidedOnce, once_reached, IsDecision, commit_found, commit_there}
@@ -48,6 +50,8 @@ pub record Facts (c : Config) (s : State) : Type 0 where
   pub closed : AllClosed s
   pub dated : AllDated s
   pub fresh : AllFresh s
+  pub rises : MomentsRise s
+  pub entered : AllEntered s
 
 -- keys that are the same are equal
 key_is : (a b : Key) → same_key a b ≡ true → a ≡ b

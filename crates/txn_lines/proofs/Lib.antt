@@ -3,3 +3,8 @@ pub mod Facts
 pub mod Stands
 pub mod Sees
 pub mod Shows
+pub mod Keys
+pub mod Readers
+pub mod CommitReads
+pub mod Legal
+pub mod True
