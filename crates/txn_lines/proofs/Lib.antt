@@ -8,3 +8,5 @@ pub mod Readers
 pub mod CommitReads
 pub mod Legal
 pub mod True
+pub mod Dates
+pub mod Placed

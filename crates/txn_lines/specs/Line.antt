@@ -1,8 +1,6 @@
 -- The line of a transaction service: its placed calls in the order of their keys.
 use Rattle.std.specs.Prelude.{◌≡◌, ◌⊎◌, ℕ, ◌<◌, ◌≤◌, Bool, true, false, List, Some, IsTrue}
 use Rattle.rss_names.specs.declared.service.Key.{Key}
-use Rattle.rss_names.specs.declared.service.ServiceId.{ServiceId}
-use Rattle.rss_names.specs.declared.service.ServiceId.TheVariants.{Txn, Reg}
 use Rattle.rss_model.specs.declared.op.Op.{Op}
 use Rattle.rss_wire.specs.declared.messages.Version.{Version}
 use Rattle.rss_tables.specs.Lines.{Line, shown_on}
@@ -22,6 +20,7 @@ use Rattle.rss_machine.specs.declared.session.OwnerKind.TheVariants as kind
 use Rattle.rss_machine.specs.declared.session.Session.TheVariants as session
 use Rattle.rss_machine.specs.declared.state.OwnerFate.TheVariants.{Ended}
 use Rattle.shard_laws.specs.Committed.{written_value}
+use Rattle.txn_dates.specs.Entered.{is_txn_service}
 
 -- a placed call of a transaction service with its time, whether it only reads, the keys that it reads, and the lines that
 -- show them: a committed transaction, one whose guard failed, or a snapshot that has ended
@@ -71,9 +70,9 @@ pub record TxnsInside (s : State) : Type 0 where
   pub after : (o time : ℕ) (x : TxnSession) → (owner_at s o).session ≡ session.Transaction x → commit_of s x ≡ Some time → (owner_at s o).dates.begun < step_of_time s time
   pub by_end : (o time : ℕ) (x : TxnSession) → (owner_at s o).session ≡ session.Transaction x → commit_of s x ≡ Some time → (owner_at s o).fate ≡ Ended → step_of_time s time ≤ (owner_at s o).dates.ended
 
--- a call that entered its service takes effect after the step of its entry
+-- a call that entered its transaction service takes effect after the step of its entry
 pub record TxnsEnter (s : State) : Type 0 where
-  pub after : (o time : ℕ) (only_reads : Bool) (keys : List Key) (lines : List Line) → PlacedTxn s o time only_reads keys lines → 0 < (owner_at s o).dates.entered → (owner_at s o).dates.entered < step_of_time s time
+  pub after : (o time : ℕ) (only_reads : Bool) (keys : List Key) (lines : List Line) (x : Op) → PlacedTxn s o time only_reads keys lines → (owner_at s o).kind ≡ kind.Calling x → is_txn_service (service_of x) ≡ true → 0 < (owner_at s o).dates.entered → (owner_at s o).dates.entered < step_of_time s time
 
 -- the time of a call is not below the least time of its service in its copy, and above it where the call is committed; so the call
 -- stands after each earlier call whose time is at most that
