@@ -1,23 +1,18 @@
 -- Moves that do nothing to transactions, snapshots and shards.
-use Rattle.std.proofs.Common.{◌≡◌, ◌⊎◌, inl, inr, ℕ, zero, suc, ◌+◌, ◌-◌, ◌<◌, ◌≤◌, Bool, true, false, List, [], ◌∷◌, ◌++◌, All, length, Option, Some, None, refl, sym, ap, ◌∙◌, subst, arith}
+use Rattle.std.proofs.Common.{◌≡◌, ◌⊎◌, inl, inr, ℕ, zero, suc, ◌+◌, ◌-◌, ◌<◌, ◌≤◌, Bool, true, false, List, [], ◌∷◌, ◌++◌, All, length, refl, sym, ap, ◌∙◌, subst, arith}
 use Rattle.std.proofs.Math.ListN.{set}
 use Rattle.std.specs.Prelude.{get_or}
 use Rattle.std.proofs.lemmas.List.{set-set, get_or-set_same}
 use Rattle.std.proofs.lemmas.List.Elements.{All-head, All-tail}
 use Rattle.pipeline_lang.specs.declared.config.Config.{Config}
-use Rattle.rss_names.specs.declared.attempt.Attempt.{Attempt}
-use Rattle.rss_names.specs.declared.service.Target.{Target}
-use Rattle.rss_names.specs.declared.service.Target.TheVariants.{Shard, Replica}
-use Rattle.rss_model.specs.declared.op.Op.{Op}
 use Rattle.rss_wire.specs.Messages.{message_at}
 use Rattle.rss_tables.specs.Outs.{Out}
 use Rattle.rss_machine.specs.Moves.{sends}
 use Rattle.rss_machine.specs.State.{State, Owner, owner_at, no_owner}
-use Rattle.rss_machine.specs.declared.state.OwnerFate.TheVariants.{Ended}
-use Rattle.world_laws.proofs.Looks.{looks, get_or_set, get_or_append, get_or_one}
+use Rattle.world_laws.proofs.Looks.{looks, get_or_set}
 use Rattle.world_laws.proofs.StoreMoves.{SameStores}
-use Rattle.shard_events.specs.Facts.{Aside, IsNew, StaysWith, StaysWithout, NetGrows, Sends, SameShards, is_with_shards, is_replica, no_out, current_at, currents_after}
-use Rattle.shard_events.proofs.Sending.{sent_owner, sends_owned, sends_clock, sends_net, net_same}
+use Rattle.shard_events.specs.Facts.{Aside, IsNew, StaysWith, StaysWithout, NetGrows, Sends, SameShards, is_with_shards, is_replica, no_out, currents_after}
+use Rattle.shard_events.proofs.Sending.{sends_owned, sends_clock, sends_net, net_same}
 
 -- how one owner may change aside
 pub record OneAside (steps : ℕ) (v w : Owner) : Type 0 where

@@ -1,8 +1,8 @@
 -- The clock within a step.
-use Rattle.std.proofs.Common.{◌≡◌, ℕ, ◌<◌, ◌≤◌, List, length, refl, sym, subst, arith}
+use Rattle.std.proofs.Common.{◌≡◌, ℕ, ◌<◌, ◌≤◌, List, length, refl, sym, subst}
 use Rattle.truetime.specs.Reading.{Reading}
 use Rattle.pipeline_lang.specs.declared.config.Config.{Config}
-use Rattle.rss_machine.specs.State.{State, owner_at}
+use Rattle.rss_machine.specs.State.{State}
 use Rattle.world_laws.proofs.Replies.{Sound}
 use Rattle.world_laws.proofs.Told.{Told}
 use Rattle.shard_events.specs.Events.{Event, aside, begins_txn, begins_snapshot, txn_hears_one, snap_hears_one, txn_wakes_one, snap_wakes_one, txn_passes_time, sends_again, serves_one, stub_asks, stub_tells}

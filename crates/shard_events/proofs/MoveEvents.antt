@@ -1,5 +1,5 @@
 -- Each move of a step as an event, first part: messages, stages, and what owners do that is no turn.
-use Rattle.std.proofs.Common.{◌≡◌, ◌⊎◌, inl, inr, ℕ, zero, suc, ◌+◌, ◌-◌, ◌<◌, ◌≤◌, Bool, true, false, List, [], ◌∷◌, ◌++◌, All, length, Option, Some, None, refl, sym, ap, ◌∙◌, subst, arith}
+use Rattle.std.proofs.Common.{◌≡◌, ◌⊎◌, inl, inr, ℕ, zero, suc, ◌-◌, ◌<◌, ◌≤◌, Bool, true, false, List, [], ◌∷◌, ◌++◌, length, Option, Some, None, refl, sym, ap, ◌∙◌, subst, arith}
 use Rattle.std.proofs.Math.ListN.{set}
 use Rattle.std.specs.Prelude.{get_or}
 use Rattle.truetime.specs.Reading.{Reading}
@@ -7,49 +7,41 @@ use Rattle.rss_names.specs.declared.attempt.Attempt.{Attempt}
 use Rattle.rss_names.specs.declared.service.ServiceId.{ServiceId}
 use Rattle.rss_names.specs.declared.service.Target.{Target}
 use Rattle.rss_names.specs.declared.service.Target.TheVariants.{Shard, Replica}
-use Rattle.causal_context.specs.declared.dep.Dep.{Dep}
 use Rattle.pipeline_lang.specs.declared.config.Config.{Config}
 use Rattle.rss_model.specs.declared.history.Entry.TheVariants.{Over}
 use Rattle.rss_model.specs.declared.history.How.{How}
 use Rattle.rss_model.specs.declared.op.Op.{Op}
-use Rattle.rss_wire.specs.Messages.{message_at, no_message, meets, answers, reply_envelope}
-use Rattle.rss_wire.specs.declared.envelope.Envelope.{Envelope}
+use Rattle.rss_wire.specs.Messages.{message_at, meets, reply_envelope}
 use Rattle.rss_wire.specs.declared.message.Body.TheVariants as body
 use Rattle.rss_wire.specs.declared.message.Fate.{Fate}
 use Rattle.rss_wire.specs.declared.message.Fate.TheVariants.{Pending}
 use Rattle.rss_wire.specs.declared.message.Message.{Message}
 use Rattle.rss_wire.specs.declared.messages.Request.{Request}
-use Rattle.rss_tables.specs.Lines.{shards_of}
-use Rattle.rss_tables.specs.Outs.{Out, awaited}
 use Rattle.rss_tables.specs.ReplicaRow.{replica_reply}
-use Rattle.rss_tables.specs.RegisterSession.{RegSession, round_requests}
-use Rattle.rss_tables.specs.TransactionSession.{TxnSession, attempt_of}
 use Rattle.rss_tables.specs.Works.{no_works}
-use Rattle.rss_machine.specs.Moves.{marks_message, sends_one, sends, serves_shard, serves_replica, notes_served, dies, closed, closes_owner, unsettled_by, with_owner}
+use Rattle.rss_machine.specs.Moves.{marks_message, sends_one, serves_shard, serves_replica, notes_served, dies, closed, closes_owner, unsettled_by}
 use Rattle.rss_machine.specs.Session.{left_unsettled, Session}
-use Rattle.rss_machine.specs.Slots.{slot_in, without_target}
 use Rattle.rss_machine.specs.Standing.{is_running}
-use Rattle.rss_machine.specs.State.{State, Owner, Stage, owner_at, stage_at, cells_at, no_owner, no_currents, opening_owner}
+use Rattle.rss_machine.specs.State.{State, Owner, owner_at, stage_at, cells_at, no_owner, no_currents, opening_owner}
 use Rattle.rss_machine.specs.declared.session.OwnerKind.{OwnerKind}
 use Rattle.rss_machine.specs.declared.session.OwnerKind.TheVariants as kind
 use Rattle.rss_machine.specs.declared.session.Session.TheVariants as session
 use Rattle.rss_machine.specs.declared.state.Life.TheVariants as life
 use Rattle.rss_machine.specs.declared.state.OwnerFate.{OwnerFate}
 use Rattle.rss_machine.specs.declared.state.OwnerFate.TheVariants.{Ended, Dropped, CutOff}
-use Rattle.world_laws.specs.Scripted.{IsScripted}
 use Rattle.world_laws.proofs.Doings.{Changed, Beginning, calls, fences}
 use Rattle.world_laws.proofs.Looks.{looks}
 use Rattle.world_laws.proofs.Replies.{Sound, exchange_there, meets_envelope, meets_body, new_message}
 use Rattle.world_laws.proofs.SessionMoves.{session_at, IsAgain}
 use Rattle.world_laws.proofs.Stacked.{sent_before}
-use Rattle.world_laws.proofs.StageMoves.{StageMove, Dying, killed, lost}
+use Rattle.world_laws.proofs.StageMoves.{Dying, killed, lost}
 use Rattle.world_laws.proofs.StagesOwned.{running_there}
 use Rattle.world_laws.proofs.StoreMoves.{Serves}
 use Rattle.world_laws.proofs.ToldRuns.{Stepping, current_runs}
 use Rattle.reg_laws.proofs.Awaiting.{slot_current, none_current}
 use Rattle.shard_events.specs.Events.{Event, aside, sends_again, serves_one}
-use Rattle.shard_events.specs.Facts.{Aside, IsNew, IsLeft, NetGrows, StaysWith, StaysWithout, is_with_shards, is_replica, current_at}
-use Rattle.shard_events.proofs.Asides.{OneAside, stays_aside, none_aside, set_asides, clock_same, one_aside, still_aside, more_aside, grow_aside}
+use Rattle.shard_events.specs.Facts.{IsNew, IsLeft, NetGrows, is_replica}
+use Rattle.shard_events.proofs.Asides.{OneAside, stays_aside, set_asides, clock_same, still_aside, more_aside, grow_aside}
 use Rattle.shard_events.proofs.Sending.{net_same, net_more, sends_net}
 
 none_is : {X : Type 0} {x : X} → None ≡ Some x → ⊥

@@ -1,31 +1,26 @@
 -- Each move of a step as an event, second part: what owners do between their works, and their rounds.
-use Rattle.std.proofs.Common.{◌≡◌, ◌⊎◌, inl, inr, ℕ, ◌+◌, ◌-◌, ◌<◌, ◌≤◌, Bool, true, false, List, [], ◌∷◌, ◌++◌, All, length, Option, Some, None, refl, sym, ap, ◌∙◌, subst, arith}
+use Rattle.std.proofs.Common.{◌≡◌, ◌⊎◌, inl, inr, ℕ, true, false, List, [], ◌∷◌, All, length, Option, Some, None, refl, sym, ap, ◌∙◌, arith}
 use Rattle.std.proofs.Math.ListN.{set}
 use Rattle.std.specs.Prelude.{get_or}
 use Rattle.std.proofs.lemmas.List.Elements.{All-nil, All-cons, All-head, All-tail}
 use Rattle.truetime.specs.Reading.{Reading}
-use Rattle.rss_names.specs.declared.attempt.Attempt.{Attempt}
 use Rattle.rss_names.specs.declared.service.ServiceId.{ServiceId}
 use Rattle.rss_names.specs.declared.service.Target.{Target}
-use Rattle.rss_names.specs.declared.service.Target.TheVariants.{Shard, Replica}
+use Rattle.rss_names.specs.declared.service.Target.TheVariants.{Replica}
 use Rattle.causal_context.specs.declared.dep.Dep.{Dep}
 use Rattle.pipeline_lang.specs.declared.config.Config.{Config}
-use Rattle.rss_wire.specs.declared.messages.Reply.{Reply}
 use Rattle.rss_wire.specs.declared.messages.Request.TheVariants as request
-use Rattle.rss_wire.specs.declared.message.Message.{Message}
 use Rattle.rss_tables.specs.Outs.{Out, awaited, line_out, slot_replica}
 use Rattle.rss_tables.specs.RegisterSession.{RegSession, round_requests, session_after}
 use Rattle.rss_tables.specs.declared.register_session.RegWork.TheVariants as work
 use Rattle.rss_tables.specs.SnapshotSession.{snap_starts}
 use Rattle.rss_tables.specs.TransactionSession.{txn_starts}
 use Rattle.rss_machine.specs.Effect.{least_shard}
-use Rattle.rss_machine.specs.Moves.{sends, closed, session_without}
+use Rattle.rss_machine.specs.Moves.{sends, session_without}
 use Rattle.rss_machine.specs.Calls.{session_for}
 use Rattle.rss_machine.specs.Session.{Session, service_of}
-use Rattle.rss_machine.specs.Slots.{without_target}
 use Rattle.rss_machine.specs.Standing.{is_running}
-use Rattle.rss_machine.specs.State.{State, Owner, owner_at, no_owner, no_currents}
-use Rattle.rss_machine.specs.declared.session.OwnerKind.TheVariants as kind
+use Rattle.rss_machine.specs.State.{State, Owner, owner_at}
 use Rattle.rss_machine.specs.declared.session.Session.TheVariants as session
 use Rattle.rss_machine.specs.declared.state.OwnerFate.{OwnerFate}
 use Rattle.rss_machine.specs.declared.state.OwnerFate.TheVariants.{Ended, CutOff}
@@ -39,8 +34,8 @@ use Rattle.world_laws.proofs.TurnMoves.{IsNoTurn}
 use Rattle.reg_laws.proofs.Awaiting.{Awaiting, idle_current, current_without}
 use Rattle.shard_events.specs.Events as event
 use Rattle.shard_events.specs.Events.{Event, aside, AwaitsNothing, Launches, SettlesTo}
-use Rattle.shard_events.specs.Facts.{StaysWith, StaysWithout, SameShards, is_with_shards, is_replica, current_at, currents_after}
-use Rattle.shard_events.proofs.Asides.{OneAside, stays_aside, none_aside, clock_same, one_aside, sends_aside, ToReplica}
+use Rattle.shard_events.specs.Facts.{StaysWithout, is_with_shards, is_replica, current_at, currents_after}
+use Rattle.shard_events.proofs.Asides.{OneAside, none_aside, clock_same, one_aside, sends_aside, ToReplica}
 use Rattle.shard_events.proofs.MoveEvents.{closes_aside}
 use Rattle.shard_events.proofs.Sending.{sends_clock, sends_net}
 use Rattle.shard_events.proofs.TurnEvents.{sends_changed, sends_from, shards_later}

@@ -1,6 +1,6 @@
 -- The induction over events: what each event keeps, every run keeps.
-use Rattle.std.proofs.Common.{◌≡◌, ◌⊎◌, inl, inr, ℕ, ◌+◌, ◌<◌, ◌≤◌, List, [], ◌∷◌, ◌++◌, All, length, Option, Some, None, refl, sym, ap, ◌∙◌, subst, arith}
-use Rattle.std.specs.Prelude.{⊤, get_or, max}
+use Rattle.std.proofs.Common.{◌≡◌, ◌⊎◌, inl, inr, ℕ, ◌+◌, ◌<◌, ◌≤◌, List, [], ◌∷◌, ◌++◌, All, length, Some, None, refl, sym, ap, ◌∙◌, subst, arith}
+use Rattle.std.specs.Prelude.{⊤, get_or}
 use Rattle.std.proofs.lemmas.Bool.{leb-true, cases_lt}
 use Rattle.std.proofs.lemmas.List.Elements.{All-head, All-tail}
 use Rattle.truetime.specs.Reading.{Reading}
@@ -10,12 +10,12 @@ use Rattle.rss_machine.specs.Effect.{stepped}
 use Rattle.rss_machine.specs.Moves.{ticks}
 use Rattle.rss_machine.specs.Refusal.{refusal}
 use Rattle.rss_machine.specs.Run.{run, run_from, readings_of}
-use Rattle.rss_machine.specs.State.{State, start, owner_at}
+use Rattle.rss_machine.specs.State.{State, start}
 use Rattle.rss_machine.specs.declared.step.Step.{Step}
 use Rattle.world_laws.specs.Laws.{IsOrdered}
 use Rattle.world_laws.proofs.Looks.{looks}
 use Rattle.world_laws.proofs.Replies.{Sound, sound_start}
-use Rattle.world_laws.proofs.Runs.{passes, run_rest, run_none, run_split}
+use Rattle.world_laws.proofs.Runs.{passes, run_rest, run_none}
 use Rattle.world_laws.proofs.ToldLaws.{told_ticks, told_start}
 use Rattle.world_laws.proofs.ToldMoves.{Fresh}
 use Rattle.world_laws.proofs.ToldRuns.{AllTold}
@@ -25,7 +25,7 @@ use Rattle.shard_events.specs.Events.{Event}
 use Rattle.shard_events.specs.Known.{Known, moment_at}
 use Rattle.shard_events.specs.Steps.{Happens, nothing, then}
 use Rattle.shard_events.proofs.Clocks.{Clocked, known_of}
-use Rattle.shard_events.proofs.Walk.{Base, Path, path_walk}
+use Rattle.shard_events.proofs.Walk.{Base, path_walk}
 
 -- the true moments between steps
 pub record Moments (s : State) : Type 0 where

@@ -1,15 +1,15 @@
 -- What requests that an owner sends make of the net and of the owner.
-use Rattle.std.proofs.Common.{◌≡◌, ℕ, zero, suc, ◌+◌, ◌<◌, ◌≤◌, List, [], ◌∷◌, ◌++◌, length, Option, Some, None, refl, sym, ap, ◌∙◌, subst, arith}
+use Rattle.std.proofs.Common.{◌≡◌, ℕ, zero, suc, ◌+◌, ◌<◌, ◌≤◌, List, [], ◌∷◌, ◌++◌, length, refl, sym, ap, ◌∙◌, subst, arith}
 use Rattle.std.proofs.Math.ListN.{set}
 use Rattle.std.specs.Prelude.{get_or}
 use Rattle.std.proofs.lemmas.List.{set-set, get_or-set_same}
-use Rattle.rss_wire.specs.Messages.{message_at, no_message, asks, request_envelope}
+use Rattle.rss_wire.specs.Messages.{message_at, asks, request_envelope}
 use Rattle.rss_wire.specs.declared.message.Body.TheVariants as body
 use Rattle.rss_wire.specs.declared.envelope.Envelope.{Envelope}
 use Rattle.rss_wire.specs.declared.message.Fate.TheVariants.{Pending}
 use Rattle.rss_wire.specs.declared.message.Message.{Message}
 use Rattle.rss_tables.specs.Outs.{Out}
-use Rattle.rss_machine.specs.Moves.{sends, sends_one, with_owner}
+use Rattle.rss_machine.specs.Moves.{sends, sends_one}
 use Rattle.rss_machine.specs.Slots.{with_current}
 use Rattle.rss_machine.specs.State.{State, Owner, owner_at, no_owner}
 use Rattle.world_laws.proofs.Looks.{looks}

@@ -1,25 +1,23 @@
 -- Each move of a step as an event, third part: turns of transactions and snapshots, and stubs that settle.
-use Rattle.std.proofs.Common.{◌≡◌, ◌⊎◌, inl, inr, ℕ, ◌+◌, ◌<◌, ◌≤◌, Bool, true, false, List, [], ◌∷◌, length, Option, Some, None, refl, sym, ap, ◌∙◌, subst, arith}
+use Rattle.std.proofs.Common.{◌≡◌, ◌⊎◌, inl, inr, ℕ, ◌+◌, ◌<◌, true, List, [], ◌∷◌, length, Option, Some, None, refl, sym, ap, ◌∙◌, subst, arith}
 use Rattle.std.proofs.Math.ListN.{set}
-use Rattle.std.specs.Prelude.{get_or, map}
+use Rattle.std.specs.Prelude.{get_or}
 use Rattle.truetime.specs.Reading.{Reading}
 use Rattle.rss_names.specs.declared.attempt.Attempt.{Attempt}
 use Rattle.pipeline_lang.specs.declared.config.Config.{Config}
 use Rattle.rss_wire.specs.declared.messages.Outcome.{Outcome}
 use Rattle.rss_wire.specs.declared.messages.Reply.{Reply}
 use Rattle.rss_wire.specs.declared.messages.Reply.TheVariants as reply
-use Rattle.rss_tables.specs.Lines.{line_at, tells_decision, decision_request}
-use Rattle.rss_tables.specs.Outs.{Out, slot_shard, told}
+use Rattle.rss_tables.specs.Lines.{line_at, tells_decision}
+use Rattle.rss_tables.specs.Outs.{Out, slot_shard}
 use Rattle.rss_tables.specs.SnapshotSession.{SnapSession, snap_hears, snap_wakes, snap_end}
 use Rattle.rss_tables.specs.TransactionSession.{TxnSession, txn_hears, txn_wakes, txn_passes, txn_end, shown_reply}
 use Rattle.rss_tables.specs.Turns.{Turn}
 use Rattle.rss_tables.specs.Works.{planned, plan_all}
 use Rattle.rss_machine.specs.Calls.{txn_turns, snap_turns}
 use Rattle.rss_machine.specs.Moves.{sends, listens, plans_stub}
-use Rattle.rss_machine.specs.Session.{Session}
 use Rattle.rss_machine.specs.Standing.{is_running}
 use Rattle.rss_machine.specs.State.{State, Owner, owner_at, no_owner}
-use Rattle.rss_machine.specs.declared.session.OwnerKind.{OwnerKind}
 use Rattle.rss_machine.specs.declared.session.Session.TheVariants as session
 use Rattle.world_laws.specs.Calls.{is_call}
 use Rattle.world_laws.proofs.Doings.{Heard}
@@ -31,7 +29,7 @@ use Rattle.world_laws.proofs.ToldRuns.{Stepping}
 use Rattle.world_laws.proofs.TurnMoves.{ShardTurn, txn_answered, snap_answered, txn_wakes_one, snap_wakes_one, txn_passes_time}
 use Rattle.shard_events.specs.Events as event
 use Rattle.shard_events.specs.Events.{Event, Hears, TxnTurns, SnapTurns, heard_at}
-use Rattle.shard_events.specs.Facts.{SameShards, Sends, current_at, currents_after}
+use Rattle.shard_events.specs.Facts.{SameShards, Sends, currents_after}
 use Rattle.shard_events.proofs.Sending.{set_itself, sends_clock, sends_net}
 use Rattle.shard_events.proofs.TurnEvents.{SameRest, turns_is, changed_again, sends_changed, sends_from, shards_later}
 

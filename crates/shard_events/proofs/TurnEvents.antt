@@ -1,16 +1,14 @@
 -- What a turn makes of its owner: with its exchanges as they are left, and with what it sends.
-use Rattle.std.proofs.Common.{◌≡◌, ℕ, ◌+◌, ◌<◌, ◌≤◌, Bool, true, false, List, [], ◌∷◌, length, Option, Some, None, refl, sym, ap, ◌∙◌, subst, arith}
+use Rattle.std.proofs.Common.{◌≡◌, ℕ, ◌<◌, Bool, true, false, List, length, Option, Some, None, ap, ◌∙◌, subst, arith}
 use Rattle.std.proofs.Math.ListN.{set}
 use Rattle.std.specs.Prelude.{get_or}
 use Rattle.std.proofs.lemmas.List.{set-set, get_or-set_same}
 use Rattle.pipeline_lang.specs.declared.config.Config.{Config}
-use Rattle.rss_model.specs.declared.op.Op.{Op}
 use Rattle.rss_model.specs.declared.op.Shown.{Shown}
-use Rattle.rss_wire.specs.Messages.{message_at}
 use Rattle.rss_wire.specs.declared.message.Message.{Message}
 use Rattle.rss_tables.specs.Outs.{Out}
 use Rattle.rss_machine.specs.Calls.{ends_at, forgets_if}
-use Rattle.rss_machine.specs.Moves.{sends, goes_on, turns_session, forgets, closed}
+use Rattle.rss_machine.specs.Moves.{sends, goes_on, turns_session, closed}
 use Rattle.rss_machine.specs.Session.{Session}
 use Rattle.rss_machine.specs.Standing.{is_running}
 use Rattle.rss_machine.specs.State.{State, Owner, owner_at, no_owner, no_currents}
@@ -20,7 +18,7 @@ use Rattle.rss_machine.specs.declared.state.OwnerFate.TheVariants.{Ended}
 use Rattle.world_laws.specs.Calls.{is_call}
 use Rattle.world_laws.proofs.Looks.{looks}
 use Rattle.shard_events.specs.Events.{Turns, turned_owner, left_to_await}
-use Rattle.shard_events.specs.Facts.{Sends, SameShards, NetGrows, OneOwner, currents_after}
+use Rattle.shard_events.specs.Facts.{Sends, SameShards, currents_after}
 use Rattle.shard_events.proofs.Sending.{sends_owned, sends_clock, sends_net}
 
 -- an owner that is changed twice

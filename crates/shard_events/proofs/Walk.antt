@@ -1,43 +1,29 @@
 -- The walk: what a step does, once it is counted, is events, and each state between them is known.
-use Rattle.std.proofs.Common.{◌≡◌, ℕ, ◌+◌, ◌<◌, ◌≤◌, Bool, true, List, [], ◌∷◌, ◌++◌, length, Option, Some, None, refl, sym, ap, ◌∙◌, subst, arith}
-use Rattle.std.specs.Prelude.{get_or, max}
+use Rattle.std.proofs.Common.{◌≡◌, ℕ, [], None, refl, ap}
 use Rattle.truetime.specs.Reading.{Reading}
 use Rattle.pipeline_lang.specs.declared.config.Config.{Config}
-use Rattle.rss_names.specs.declared.service.ServiceId.{ServiceId}
-use Rattle.rss_names.specs.declared.service.Target.{Target}
-use Rattle.rss_names.specs.declared.service.Target.TheVariants.{Shard, Replica}
-use Rattle.rss_machine.specs.Effect.{stepped, effect}
-use Rattle.rss_machine.specs.Moves.{ticks}
-use Rattle.rss_machine.specs.Refusal.{refusal, kind_refusal}
-use Rattle.rss_machine.specs.Standing.{is_running}
-use Rattle.rss_machine.specs.State.{State, owner_at}
-use Rattle.rss_machine.specs.declared.session.Session.TheVariants as session
-use Rattle.rss_machine.specs.declared.state.OwnerFate.{OwnerFate}
-use Rattle.rss_machine.specs.declared.step.Step.{Step}
+use Rattle.rss_machine.specs.Effect.{effect}
+use Rattle.rss_machine.specs.Refusal.{kind_refusal}
+use Rattle.rss_machine.specs.State.{State}
 use Rattle.rss_machine.specs.declared.step.StepKind.{StepKind}
 use Rattle.world_laws.proofs.Beside.{beside}
 use Rattle.world_laws.proofs.OwnerMoves.{OwnerKeeps}
 use Rattle.world_laws.proofs.OwnerWalk.{AllKeeps, StepKeeps, step_walk}
-use Rattle.world_laws.proofs.Replies.{Sound, sound_keeps, sound_start}
-use Rattle.world_laws.proofs.Runs.{passes}
-use Rattle.world_laws.proofs.SessionMoves.{session_at}
-use Rattle.world_laws.proofs.StackRuns.{IsKept}
+use Rattle.world_laws.proofs.Replies.{Sound, sound_keeps}
 use Rattle.world_laws.proofs.Stacked.{stacked}
-use Rattle.world_laws.proofs.StageMoves.{AllMoves}
 use Rattle.world_laws.proofs.StoreWalk.{store_owner}
-use Rattle.world_laws.proofs.ToldLaws.{told_keeps, told_ticks, told_start}
-use Rattle.world_laws.proofs.ToldRuns.{AllTold, Stepping, AtRest, Reached, Running}
+use Rattle.world_laws.proofs.ToldLaws.{told_keeps}
+use Rattle.world_laws.proofs.ToldRuns.{Stepping, AtRest, Reached, Running}
 use Rattle.world_laws.proofs.Told.{Told}
 use Rattle.world_laws.proofs.ToldMoves.{Fresh}
 use Rattle.world_laws.proofs.TurnMoves.{StepMoves, step_moves}
 use Rattle.reg_laws.proofs.Awaiting as awaiting
 use Rattle.reg_laws.proofs.Awaiting.{Awaiting}
-use Rattle.reg_laws.proofs.Awaits.{awaited_under, awaited_start}
+use Rattle.reg_laws.proofs.Awaits.{awaited_under}
 use Rattle.shard_events.specs.Events.{Event}
 use Rattle.shard_events.specs.Facts.{is_with_shards}
-use Rattle.shard_events.specs.Known.{Known, moment_at}
 use Rattle.causal_context.specs.Deps.{given_dep}
-use Rattle.shard_events.specs.Steps.{Happens, nothing, then}
+use Rattle.shard_events.specs.Steps.{Happens, then}
 use Rattle.shard_events.proofs.Clocks.{Clocked, clocked_same, event_clock, known_of}
 use Rattle.shard_events.proofs.MoveEvents.{of_fates, of_stages, of_shards, of_replicas, of_again, of_begins, of_dies}
 use Rattle.shard_events.proofs.OwnerEvents.{of_rests, of_works, of_leaves, of_does, of_round}

@@ -1,5 +1,5 @@
 -- What is known of every state within a step, once the step is counted.
-use Rattle.std.specs.Prelude.{◌≡◌, ℕ, ◌<◌, ◌≤◌, List, ◌∷◌, length, get_or}
+use Rattle.std.specs.Prelude.{◌≡◌, ℕ, ◌<◌, ◌≤◌, ◌∷◌, length, get_or}
 use Rattle.truetime.specs.Reading.{Reading}
 use Rattle.rss_machine.specs.State.{State, owner_at}
 use Rattle.world_laws.specs.Exchanges.{Exchanges}
