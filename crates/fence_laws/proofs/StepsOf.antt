@@ -16,7 +16,7 @@ use Rattle.world_laws.proofs.Clock.{clock_step}
 use Rattle.world_laws.proofs.Looks.{looks}
 use Rattle.world_laws.proofs.Runs.{run_keeps}
 use Rattle.world_laws.proofs.StepsOfTimes.{above_from, above_rises}
-use Rattle.shard_events.specs.Known.{Known, moment_at}
+use Rattle.shard_event_laws.specs.Known.{Known, moment_at}
 use Rattle.fence_laws.specs.Laws.{MomentsRise, TimesFit}
 
 -- where the first so many moments are at most a time, its step lies behind them

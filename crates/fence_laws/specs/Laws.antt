@@ -7,7 +7,7 @@ use Rattle.rss_machine.specs.Run.{run}
 use Rattle.rss_machine.specs.State.{State}
 use Rattle.rss_machine.specs.Times.{step_of_time}
 use Rattle.rss_machine.specs.declared.step.Step.{Step}
-use Rattle.shard_events.specs.Known.{moment_at}
+use Rattle.shard_event_laws.specs.Known.{moment_at}
 use Rattle.fence_laws.specs.Fences.{FencesEnd}
 
 -- the true moments after the steps of a state are as many as the steps, and never fall

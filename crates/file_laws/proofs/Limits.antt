@@ -45,7 +45,7 @@ few_or_none : (most : ℕ) (at : Place) (value : Option Data) (ys : Items) → o
 few_or_none most at (Some value) ys h = few_of most at value ys h
 few_or_none most at None ys h = subst (λ (zs : Items). item_count zs ≤ most) (ok_same no_items ys h) (none_few most)
 
-few_tables : (most : ℕ) (at : Place) (root : Members) (ys : Items) → tables_or_none most at root ≡ Ok ys → item_count ys ≤ most
+pub few_tables : (most : ℕ) (at : Place) (root : Members) (ys : Items) → tables_or_none most at root ≡ Ok ys → item_count ys ≤ most
 unfolding tables_or_none
 few_tables most at root ys h = few_or_none most at (value_at at.key root) ys h
 

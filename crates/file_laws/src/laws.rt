@@ -1,7 +1,7 @@
 //! What holds of every file.
 
 ghost use Rattle.file_laws.specs.FileOrder.{TablesAreInFileOrder};
-ghost use Rattle.file_laws.specs.ReadFiles.{FilesAreInOrder};
+ghost use Rattle.file_laws.specs.ReadFiles.{FilesAreInOrder, FilesNameKeys};
 
 /// The tables of names hold the names of the file in file order; as many homes stand beside them as
 /// keys, and as many services as registers.
@@ -15,4 +15,11 @@ pub fn tables_are_in_file_order()
 /// numbered in order from 1.
 pub fn files_are_in_order()
     ensures { FilesAreInOrder }
+{}
+
+/// Each key that a snapshot or a transaction of a file's scripts names is one of the file: its home
+/// is the number of one of the file's shards, from 1 to at most 16, and that shard keeps the key from
+/// the beginning. Each snapshot and each transaction names a key at least.
+pub fn files_name_keys()
+    ensures { FilesNameKeys }
 {}

@@ -3,4 +3,4 @@
 
 mod laws;
 
-pub use laws::{files_are_in_order, tables_are_in_file_order};
+pub use laws::{files_are_in_order, files_name_keys, tables_are_in_file_order};

@@ -1,3 +1,4 @@
+pub mod Files
 pub mod Serving
 pub mod Given
 pub mod Told

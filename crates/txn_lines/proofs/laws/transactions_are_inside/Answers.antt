@@ -1,6 +1,0 @@
-use Rattle.txn_lines.proofs.Dates.{txns_inside}
-use Rattle.txn_lines.proofs.True.{facts_run}
-use Rattle.txn_lines.proofs.laws.transactions_are_inside.Goals as goal
-
-pub returns : goal.returns
-returns c = λ config steps s n a e. txns_inside config s (facts_run config steps s n a e)

@@ -1,6 +1,0 @@
-use Rattle.txn_lines.proofs.Placed.{txns_placed}
-use Rattle.txn_lines.proofs.True.{facts_run}
-use Rattle.txn_lines.proofs.laws.transactions_are_placed.Goals as goal
-
-pub returns : goal.returns
-returns c = λ config steps s n a e. txns_placed config s (facts_run config steps s n a e)

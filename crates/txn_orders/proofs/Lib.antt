@@ -1,6 +1,0 @@
-pub mod Grows
-pub mod InOrder
-pub mod Replies
-pub mod Serves
-pub mod Keeps
-pub mod Starts

@@ -1,0 +1,4 @@
+pub mod Grows
+pub mod Replies
+pub mod Serves
+pub mod Commits

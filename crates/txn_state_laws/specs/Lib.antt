@@ -1,0 +1,13 @@
+pub mod Replied
+pub mod Framed
+pub mod Awaited
+pub mod Told
+pub mod Justified
+pub mod Decided
+pub mod Orderly
+pub mod Voted
+pub mod Closed
+pub mod Onward
+pub mod Passed
+pub mod Dated
+pub mod Fresh

@@ -1,5 +1,0 @@
-pub mod Grows
-pub mod Splits
-pub mod Commits
-pub mod Serves
-pub mod Keeps
