@@ -1,8 +1,12 @@
 -- All that holds of transactions, snapshots and shards holds in every run: each event keeps it.
-use Rattle.std.proofs.Common.{◌≡◌, ℕ, ◌+◌, List, [], ◌∷◌, ◌++◌, All, length, Some, refl, ap, ◌∙◌, arith}
+use Rattle.std.proofs.Common.{true, if◌then◌else◌, ◌≡◌, ℕ, ◌+◌, List, [], ◌∷◌, ◌++◌, All, length, Some, refl, ap, ◌∙◌, arith}
 use Rattle.truetime.specs.Reading.{Reading}
 use Rattle.truetime.specs.TrueMoment.{moment_after}
 use Rattle.pipeline_lang.specs.declared.config.Config.{Config}
+use Rattle.rss_tables.specs.TransactionSession.{TxnSession}
+use Rattle.rss_tables.specs.declared.lines.LineState.TheVariants.{Awaiting, Dropped}
+use Rattle.rss_tables.specs.declared.phases.TxnPhase.{TxnPhase}
+use Rattle.rss_tables.specs.declared.phases.TxnPhase.TheVariants as phases
 use Rattle.rss_machine.specs.Moves.{ticks}
 use Rattle.rss_machine.specs.Run.{run, readings_of}
 use Rattle.rss_machine.specs.State.{State, start}
@@ -24,12 +28,12 @@ use Rattle.txn_state_laws.specs.Orderly.{AllOrderly, AllInOrder}
 use Rattle.txn_state_laws.specs.Passed.{AllPassed}
 use Rattle.txn_state_laws.specs.Told.{AllTold}
 use Rattle.txn_state_laws.specs.Voted.{AllVoted}
-use Rattle.txn_frame_laws.specs.Standing.{UnderWay}
+use Rattle.txn_frame_laws.specs.Standing.{UnderWay, is_led, TxnLed, AllLed}
 use Rattle.txn_frame_laws.proofs.UnderWay.{under_way_keeps, under_way_start, under_way_ticks, under_way_hears}
-use Rattle.txn_onward_laws.specs.Alone.{AllAlone}
+use Rattle.txn_onward_laws.specs.Alone.{is_alone, IsAlone, AllAlone}
 use Rattle.txn_onward_laws.specs.Undone.{NeverUndone}
-use Rattle.txn_onward_laws.proofs.Alone.{alone_keeps, alone_start, alone_ticks}
 use Rattle.txn_onward_laws.proofs.Goes.{onward}
+use Rattle.txn_onward_laws.proofs.Never.{no}
 use Rattle.txn_onward_laws.proofs.Tells.{told_keeps, told_start, told_ticks}
 use Rattle.txn_decision_laws.specs.Calm.{AllCalm}
 use Rattle.txn_decision_laws.proofs.CalmKeeps.{calm_keeps}
@@ -54,7 +58,6 @@ use Rattle.txn_line_laws.proofs.Facts.{Facts}
 
 pub record AllTrue (c : Config) (s : State) : Type 0 where
   pub under : UnderWay c s
-  pub alone : AllAlone s
   pub calm : AllCalm s
   pub told : AllTold s
   pub just : AllJust s
@@ -70,7 +73,6 @@ pub record AllTrue (c : Config) (s : State) : Type 0 where
 true_start : (c : Config) → AllTrue c (start c)
 true_start c = record {
   under = under_way_start c;
-  alone = alone_start c;
   calm = calm_start c;
   told = told_start c;
   just = just_start c;
@@ -87,7 +89,6 @@ true_start c = record {
 true_ticks : (c : Config) (s : State) (at : Reading) → AllTrue c s → AllTrue c (ticks s at)
 true_ticks c s at h = record {
   under = under_way_ticks c s at h.under;
-  alone = alone_ticks s at h.alone;
   calm = calm_ticks s at h.calm;
   told = told_ticks s at h.told;
   just = just_ticks s at h.just;
@@ -104,6 +105,24 @@ true_ticks c s at h = record {
     more : (ms : List ℕ) (x : ℕ) → length (ms ++ x ∷ []) ≡ length ms + 1
     more ms x = grind (arith, looks)
 
+-- where the coordinator alone is asked, the lines of the others are dropped
+led_where_alone : (phase : TxnPhase) → is_alone phase ≡ true → is_led phase ≡ true
+led_where_alone phases.Locking e = no e
+led_where_alone phases.Preparing e = no e
+led_where_alone (phases.Freeing time) e = no e
+led_where_alone (phases.FreeingLast time) e = refl
+led_where_alone (phases.Deciding time) e = refl
+led_where_alone phases.Undoing e = refl
+led_where_alone (phases.Waiting time) e = no e
+led_where_alone (phases.Committed time) e = no e
+led_where_alone (phases.Failed time) e = no e
+
+is_other : (x : TxnSession) → TxnLed x → IsAlone x
+is_other x h = record { others = λ p place m e. h.each (led_where_alone x.phase p) place m ∙ ap (λ b. if b then Awaiting else Dropped) e }
+
+all_alone : (s : State) → AllLed s → AllAlone s
+all_alone s h = record { txn = λ o x e. is_other x (h.txn o x e) }
+
 module _ (c : Config) (names : NamesKeys c) (at : Reading) (s t : State) (known : Known at s) (known_after : Known at t) (event : Event c at s t) (h : AllTrue c s) where
   heard : AnswersHeard s
   heard = under_way_hears c at s known h.under
@@ -118,7 +137,7 @@ module _ (c : Config) (names : NamesKeys c) (at : Reading) (s t : State) (known 
   on = onward c at s t known h.under.framed heard never event
 
   told : AllTold t
-  told = told_keeps c at s t known known_after h.under.framed heard never h.alone on event h.told
+  told = told_keeps c at s t known known_after h.under.framed heard never (all_alone s h.under.led) on event h.told
 
   between : Between c at s t
   between = record {
@@ -146,7 +165,6 @@ module _ (c : Config) (names : NamesKeys c) (at : Reading) (s t : State) (known 
   true_keeps : AllTrue c t
   true_keeps = record {
     under = under;
-    alone = alone_keeps c at s t h.under.framed heard never event h.alone;
     calm = calm_keeps c at s t between h.calm;
     told = told;
     just = just_keeps c at s t between h.calm h.just h.decided;

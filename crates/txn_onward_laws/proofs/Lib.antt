@@ -8,9 +8,7 @@ pub mod Events
 pub mod Goes
 pub mod Replies
 pub mod ToldLines
-pub mod AloneTurns
 pub mod Steps
-pub mod Alone
 pub mod ToldParts
 pub mod ToldHears
 pub mod ToldPhases

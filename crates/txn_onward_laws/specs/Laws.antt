@@ -17,12 +17,6 @@ abbrev pub SessionsGoOn : Type 0
 SessionsGoOn =
     (c : Config) (at : Reading) (s t : State) → Known at s → AllFramed c s → AnswersHeard s → NeverUndone s → Event c at s t → AllOnward s t
 
--- where a transaction asks its coordinator alone, the lines of the others are dropped
-pub record OthersAreDropped : Type 0 where
-  pub keeps : (c : Config) (at : Reading) (s t : State) → AllFramed c s → AnswersHeard s → NeverUndone s → Event c at s t → AllAlone s → AllAlone t
-  pub first : (c : Config) → AllAlone (start c)
-  pub ticks_keep : (s : State) (at : Reading) → AllAlone s → AllAlone (ticks s at)
-
 -- lines were told what their states say
 pub record LinesAreTold : Type 0 where
   pub keeps : (c : Config) (at : Reading) (s t : State) → Known at s → Known at t → AllFramed c s → AnswersHeard s → NeverUndone s → AllAlone s → AllOnward s t → Event c at s t → AllTold s → AllTold t

@@ -4,4 +4,4 @@
 
 mod laws;
 
-pub use laws::{lines_are_told, other_lines_are_dropped, sessions_go_on};
+pub use laws::{lines_are_told, sessions_go_on};
