@@ -69,8 +69,8 @@ module _ (c : Config) (at : Reading) (s t : State) (b : Between c at s t) (decid
     fresh_then = by_end (ended_before s t w h.txn written h.under_way (ap txn_end h.committed) c at b.event)
 
 -- each event keeps snapshots fresh
-pub fresh_keeps : (c : Config) (at : Reading) (s t : State) → Between c at s t → AllDecided s → AllDecided t → AllOrderly c s → AllVoted s → AllPassed s → AllDated s → AllDated t → AllFresh s → AllFresh t
-fresh_keeps c at s t b decided decided' orderly voted passed dated dated' fresh = record {
+pub fresh_keeps : (c : Config) (at : Reading) (s t : State) → Between c at s t → AllDecided s → AllOrderly c s → AllVoted s → AllPassed s → AllDated s → AllDated t → AllFresh s → AllFresh t
+fresh_keeps c at s t b decided orderly voted passed dated dated' fresh = record {
   each = λ o time w written y key under known h late asked. fresh_then c at s t b decided orderly voted passed dated dated' fresh o time w written y key under known h late asked;
 }
 

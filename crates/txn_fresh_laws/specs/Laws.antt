@@ -13,7 +13,7 @@ use Rattle.txn_state_laws.specs.Voted.{AllVoted}
 
 -- each event keeps snapshots fresh
 abbrev pub FreshKeeps : Type 0
-FreshKeeps = (c : Config) (at : Reading) (s t : State) → Between c at s t → AllDecided s → AllDecided t → AllOrderly c s → AllVoted s → AllPassed s → AllDated s → AllDated t → AllFresh s → AllFresh t
+FreshKeeps = (c : Config) (at : Reading) (s t : State) → Between c at s t → AllDecided s → AllOrderly c s → AllVoted s → AllPassed s → AllDated s → AllDated t → AllFresh s → AllFresh t
 
 -- they are so before the first step
 abbrev pub FreshStart : Type 0

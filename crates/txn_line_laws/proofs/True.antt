@@ -172,9 +172,9 @@ module _ (c : Config) (names : NamesKeys c) (at : Reading) (s t : State) (known 
     orderly = orderly_keeps c at s t between h.just orders h.orderly;
     voted = voted_keeps c at s t between h.just h.decided decided h.orderly orders h.voted;
     closing = closing_keeps c at s t between h.just h.decided decided h.orderly orders h.closing;
-    passed = passed_keeps c at s t between h.just h.decided decided h.orderly orders h.voted h.passed;
+    passed = passed_keeps c at s t between h.just h.decided decided h.orderly orders h.passed;
     dated = dated;
-    fresh = fresh_keeps c at s t between h.decided decided h.orderly h.voted h.passed h.dated dated h.fresh;
+    fresh = fresh_keeps c at s t between h.decided h.orderly h.voted h.passed h.dated dated h.fresh;
     long = known_after.long;
   }
 

@@ -29,7 +29,6 @@ use Rattle.txn_state_laws.specs.Onward.{Between}
 use Rattle.txn_state_laws.specs.Orderly.{AllOrderly, AllInOrder}
 use Rattle.txn_state_laws.specs.Passed.{AllPassed, EndsLater, IsPassedRightly, KeyPassed}
 use Rattle.txn_state_laws.specs.Replied.{IsReplyOf, Replied}
-use Rattle.txn_state_laws.specs.Voted.{AllVoted}
 use Rattle.txn_state_laws.proofs.Grows.{DecisionsStay}
 use Rattle.txn_state_laws.proofs.Replies.{Quiet, Serves, event_does, quiet_reply, served_reply, reply_asked, ReplyComes, was, comes}
 use Rattle.txn_state_laws.proofs.Serves.{ShardGoes, stays, serves, goes, served_there, serves_at, decisions_stay}
@@ -90,8 +89,8 @@ shown_now c at s t b just orderly x n read_time least keys skip versions skipped
     after = served_there s t at.latest x inside.first inside.last ∙ ap (shard_after (shard_at s x.shard) at.latest) (sym f)
 
 -- each event keeps what answered snapshots may have missed
-pub passed_keeps : (c : Config) (at : Reading) (s t : State) → Between c at s t → AllJust s → AllDecided s → AllDecided t → AllOrderly c s → AllInOrder s → AllVoted s → AllPassed s → AllPassed t
-passed_keeps c at s t b just decided decided' orderly in_order voted passed = record {
+pub passed_keeps : (c : Config) (at : Reading) (s t : State) → Between c at s t → AllJust s → AllDecided s → AllDecided t → AllOrderly c s → AllInOrder s → AllPassed s → AllPassed t
+passed_keeps c at s t b just decided decided' orderly in_order passed = record {
   each = λ n read_time least keys skip versions skipped r key v k g.
       by_does n read_time least keys skip versions skipped key v record { asked = k; shown = g } r (event_does c at s t b.event);
 }

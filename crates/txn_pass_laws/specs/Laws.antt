@@ -8,11 +8,10 @@ use Rattle.txn_state_laws.specs.Justified.{AllJust}
 use Rattle.txn_state_laws.specs.Onward.{Between}
 use Rattle.txn_state_laws.specs.Orderly.{AllOrderly, AllInOrder}
 use Rattle.txn_state_laws.specs.Passed.{AllPassed}
-use Rattle.txn_state_laws.specs.Voted.{AllVoted}
 
 -- each event keeps what answered snapshots may have missed
 abbrev pub PassedKept : Type 0
-PassedKept = (c : Config) (at : Reading) (s t : State) → Between c at s t → AllJust s → AllDecided s → AllDecided t → AllOrderly c s → AllInOrder s → AllVoted s → AllPassed s → AllPassed t
+PassedKept = (c : Config) (at : Reading) (s t : State) → Between c at s t → AllJust s → AllDecided s → AllDecided t → AllOrderly c s → AllInOrder s → AllPassed s → AllPassed t
 
 -- it is so before the first step
 abbrev pub PassedAtFirst : Type 0
