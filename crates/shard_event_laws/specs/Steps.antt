@@ -18,7 +18,7 @@ pub data Happens (c : Config) (at : Reading) (s : State) : State → Type 0 wher
   nothing : Happens c at s s
   then : (u t : State) → Happens c at s u → Known at u → Event c at u t → Happens c at s t
 
--- what a step does, once it is counted, is such events, and leads to a state that is known; readings begin before they end
+-- what a step does, once it is counted, is such events, and leads to a state that is known; readings begin no later than they end
 abbrev pub StepsAreEvents : Type 0
 StepsAreEvents =
     (c : Config) (steps : List Step) (s : State) (next : Step) → All IsOrdered (readings_of steps) → IsOrdered next.at → run c steps ≡ Some s → refusal c s next ≡ None → Happens c next.at (ticks s next.at) (stepped c s next) × Known next.at (stepped c s next)

@@ -71,7 +71,7 @@ entered_from c (step ∷ steps) u s a e r h =
     let i = All-head IsOrdered step.at (readings_of steps) a in
     entered_from c steps (stepped c u step) s (All-tail IsOrdered step.at (readings_of steps) a) q.1 (events_step c u step q.0 i r).rested (entered_step c u step q.0 i r.2 h)
 
--- in every run, whose readings begin before they end
+-- in every run, whose readings begin no later than they end
 pub entered_run : (c : Config) (steps : List Step) (s : State) → All IsOrdered (readings_of steps) → run c steps ≡ Some s → AllEntered s
 unfolding run
 entered_run c steps s a e = entered_from c steps (start c) s a e (rested_start c) (entered_start c)

@@ -26,6 +26,6 @@ DatedStart = (c : Config) → AllDated (start c)
 abbrev pub DatedTicks : Type 0
 DatedTicks = (s : State) (at : Reading) → length s.moments ≡ s.steps → AllDated s → AllDated (ticks s at)
 
--- in every run, whose readings begin before they end, entries have raised least times
+-- in every run, whose readings begin no later than they end, entries have raised least times
 abbrev pub EntriesRaise : Type 0
 EntriesRaise = (c : Config) (steps : List Step) (s : State) → All IsOrdered (readings_of steps) → run c steps ≡ Some s → AllEntered s

@@ -11,7 +11,7 @@ pub fn times_fit_dates()
     ensures ticked { DatedTicks }
 {}
 
-/// In every run, whose readings begin before they end, a call that has entered a service of transactions
+/// In every run, whose readings begin no later than they end, a call that has entered a service of transactions
 /// in a step has a least time there that is not below the true moment of that step.
 pub fn entries_raise_least_times()
     ensures { EntriesRaise }

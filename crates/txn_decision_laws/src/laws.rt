@@ -19,9 +19,10 @@ pub fn lines_wait_for_others_only_while_they_lock()
     ensures kept { LinesStayCalm }
 {}
 
-/// Each request that was sent to a shard is what an attempt, a snapshot or a stub has reason to ask: locks
-/// and writes are those of the attempt's line, the coordinator alone is asked to decide, to commit once all
-/// are prepared, a commit or an abort that is told is kept, and locks are given back at one time.
+/// Each request that was sent to a shard, but for inquiries, which change nothing there, is what an attempt,
+/// a snapshot or a stub has reason to ask: locks and writes are those of the attempt's line, the coordinator
+/// alone is asked to decide, to commit once all are prepared, a commit or an abort that is told is kept, and
+/// locks are given back at one time, or by an attempt that is undone.
 pub fn requests_are_just()
     ensures first { HoldsAtFirst AllJust }
     ensures counted { StaysAsStepsAreCounted AllJust }

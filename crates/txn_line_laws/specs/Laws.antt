@@ -1,4 +1,4 @@
--- What holds of the transaction services of every run, of files that name their keys, where readings begin before they end.
+-- What holds of the transaction services of every run, of files that name their keys, where readings begin no later than they end.
 use Rattle.std.specs.Prelude.{◌≡◌, List, Some}
 use Rattle.std.proofs.Common.{All}
 use Rattle.pipeline_lang.specs.declared.config.Config.{Config}

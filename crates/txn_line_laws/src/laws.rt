@@ -1,6 +1,6 @@
 //! The line of each transaction service. The laws hold no code: each is the contract of a function that
 //! does nothing. They hold of every list of steps that the machine accepts, of a file whose scripts name
-//! its keys, where each reading begins before it ends: with guards, several services, losses, repeats,
+//! its keys, where each reading begins no later than it ends: with guards, several services, losses, repeats,
 //! kills and stubs.
 
 ghost use Rattle.txn_line_laws.specs.Laws.{TxnsAreLegal, TxnsArePlaced, TxnsAreInside, TxnsFollowEntry, CoveredTxnsStandBefore, TxnReadsAreFresh};
@@ -36,7 +36,7 @@ pub fn transactions_follow_their_entry()
 {}
 
 /// In every run the time of a call of a transaction service is not below the least time of its service in
-/// the copy of the context that it began with, and above it where it is committed. So it stands after
+/// its copy of the context, which entry has raised, and above it where it is committed. So it stands after
 /// each earlier call whose time that least time covers.
 pub fn covered_transactions_stand_before()
     ensures { CoveredTxnsStandBefore }
