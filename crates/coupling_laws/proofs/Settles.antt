@@ -46,7 +46,7 @@ past_settles v behind c n k z a h s = z a (k.ended a h) s (k.least a n h s)
 
 -- each call that a dependency on a register of the service holds has come
 pub fix_settles : (v : View) (behind : ℕ → Bool) (c : Seen) (n : ℕ) → IsView v → Covers v behind c
-    → All (λ d. (a : ℕ) → v.ended a ≡ true → holds_call (v.call a) d ≡ true → v.come a ≡ true) (deps_of (Reg n) c.deps)
+    → All (λ d. (a : ℕ) → v.ended a ≡ true → (v.call a).service ≡ Reg n → holds_call (v.call a) d ≡ true → v.come a ≡ true) (deps_of (Reg n) c.deps)
     → (a : ℕ) → behind a ≡ true → (v.call a).service ≡ Reg n → v.come a ≡ true
 fix_settles v behind c n i k z a h s = by_dep (k.dep a n h s)
   where
@@ -56,10 +56,10 @@ fix_settles v behind c n i k z a h s = by_dep (k.dep a n h s)
 
     by_dep : (v.come a ≡ true) ⊎ (holds c.deps (v.call a) ≡ true) → v.come a ≡ true
     by_dep (inl e) = e
-    by_dep (inr e) = held_leads (v.call a) (v.come a ≡ true) (deps_of (Reg n) c.deps) (λ j d l f. z j d l a (k.ended a h) f) (there e)
+    by_dep (inr e) = held_leads (v.call a) (v.come a ≡ true) (deps_of (Reg n) c.deps) (λ j d l f. z j d l a (k.ended a h) s f) (there e)
 
 -- no dependency is on a register of the service
 pub nothing_settles : (v : View) (behind : ℕ → Bool) (c : Seen) (n : ℕ) → IsView v → Covers v behind c → deps_of (Reg n) c.deps ≡ []
     → (a : ℕ) → behind a ≡ true → (v.call a).service ≡ Reg n → v.come a ≡ true
 nothing_settles v behind c n i k e =
-    fix_settles v behind c n i k (subst (All (λ (d : Dep). (a : ℕ) → v.ended a ≡ true → holds_call (v.call a) d ≡ true → v.come a ≡ true)) (sym e) (All-nil (λ (d : Dep). (a : ℕ) → v.ended a ≡ true → holds_call (v.call a) d ≡ true → v.come a ≡ true)))
+    fix_settles v behind c n i k (subst (All (λ (d : Dep). (a : ℕ) → v.ended a ≡ true → (v.call a).service ≡ Reg n → holds_call (v.call a) d ≡ true → v.come a ≡ true)) (sym e) (All-nil (λ (d : Dep). (a : ℕ) → v.ended a ≡ true → (v.call a).service ≡ Reg n → holds_call (v.call a) d ≡ true → v.come a ≡ true)))

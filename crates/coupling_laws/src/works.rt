@@ -17,11 +17,11 @@ pub fn passed_times_settle()
         → (a : ℕ) → behind a ≡ true → (v.call a).service ≡ Txn number → v.come a ≡ true }
 {}
 
-/// Where the dependencies on registers of a service are stored at majorities, so that each call that
-/// one of them holds has come, each call of the service behind the context has come.
+/// Where the dependencies on registers of a service are stored at majorities, so that each call of it
+/// that one of them holds has come, each call of the service behind the context has come.
 pub fn stored_dependencies_settle()
     ensures { (v : View) (behind : ℕ → Bool) (c : Seen) (number : ℕ) → IsView v → Covers v behind c
-        → All (λ d. (a : ℕ) → v.ended a ≡ true → holds_call (v.call a) d ≡ true → v.come a ≡ true) (deps_of (Reg number) c.deps)
+        → All (λ d. (a : ℕ) → v.ended a ≡ true → (v.call a).service ≡ Reg number → holds_call (v.call a) d ≡ true → v.come a ≡ true) (deps_of (Reg number) c.deps)
         → (a : ℕ) → behind a ≡ true → (v.call a).service ≡ Reg number → v.come a ≡ true }
 {}
 

@@ -1,6 +1,7 @@
 -- The walk: in each state of a step, each owner has its works unplanned, or goes through those with which it went into
 -- the step.
 use Rattle.std.proofs.Common.{◌≡◌, ℕ, ◌+◌, ◌-◌, ◌<◌, ◌≤◌, ◌⊎◌, inl, inr, Bool, true, false, List, [], ◌∷◌, ◌++◌, length, get_or, Option, Some, None, refl, ap, sym, ◌∙◌, subst, arith}
+use Rattle.std.specs.Prelude.{⊤}
 use Rattle.std.proofs.Math.ListN.{set, length-set}
 use Rattle.std.proofs.lemmas.Bool.{true≢false}
 use Rattle.std.proofs.lemmas.List.{get_or-set_same}
@@ -210,6 +211,9 @@ module _ (u : State) (at : Reading) where
 
   pub through_moves : (c : Config) → StepMoves c at AnyFate (Untouched u) Through ThroughAt (λ s o. Through s)
   through_moves c = record {
+    E = λ s o. ⊤;
+    ready = λ s o x l e f h. tt;
+    clears = λ s t o x r e i a b l d y z q n h m. tt;
     acting = λ s n o e h. tt;
     heard = λ s o slot exchange e h. tt;
     runs = λ f e. tt;
@@ -223,7 +227,7 @@ module _ (u : State) (at : Reading) where
     settles = λ s o slot attempt shards outcome i a e d h. (k.settles s o slot attempt shards outcome i a e d h.0, at_settles s o slot attempt shards outcome i e h.1);
     settled = λ s o h. (h.0, h.1.all);
     works = λ s t o w i b q d h. (k.works s t o w i b q d h.0, at_going s t o w i d.owned (working_going u at s o w b h.1.going) h.1.all);
-    leaves = λ s t o w outs i b q d h. (k.leaves s t o w outs i b q d h.0, each_sends o outs t (each_to s t o w d.owned (λ l. inr (leaving_going c u at s o w outs b h.1.going)) h.1.all));
+    leaves = λ s t o w outs i b q y d h. ((owner_all c at AllWait (λ s o. AllWait s) (waits_keep c at).moves).leaves s t o w outs i b q d h.0, each_sends o outs t (each_to s t o w d.owned (λ l. inr (leaving_going c u at s o w outs b h.1.going)) h.1.all));
     does = λ s t o w outs new a b n q d h. (k.does s t o w outs new a b n q d h.0, each_sends o outs t (each_alike s t o w d.owned (doing_alike s o w outs new b) h.1));
     turns = λ s t o a y h. (k.turns s t o a y h.0, each_turns c s t o y h.1);
     reaches = λ s t o f slot r e i a x y z q d h. (k.reaches s t o f slot r e i a x y z q d h.0, each_alike s t o (ended_to s o f slot r) d.owned (doing_alike s o (ended_to s o f slot r) [] [] (register_reached f slot r e x y z)) h.1);

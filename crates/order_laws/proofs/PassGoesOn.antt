@@ -26,7 +26,7 @@ module _ (h : List Entry) (next : Entry)
   same_turn (Get getter token) behind b = refl
   same_turn (Over stage how) behind b = refl
 
-  same_pass : (n : ℕ) → n ≤ length h → calls_behind (h ++ next ∷ []) n ≡ calls_behind h n
+  pub same_pass : (n : ℕ) → n ≤ length h → calls_behind (h ++ next ∷ []) n ≡ calls_behind h n
   unfolding calls_behind
   same_pass zero l = refl
   same_pass (suc n) l =

@@ -167,7 +167,7 @@ seen_from c n u s more g d e = record { settled = h.0.0; seeing = h.1 }
         ((g, telling_same u (sound_of c u g.0.0.0.0)), record { owners = All-from_get_or (OwnerSince u) u.owners no_owner (λ i l. none_since i) })
 
 -- the service of a call's round is its register's
-proper_service : (c : Config) (s : State) (o : ℕ) (r : RegSession) (key : Key) → Fine s → session_at s o ≡ session.Register r → work_registers r.work ≡ key ∷ [] → r.service ≡ key.service
+pub proper_service : (c : Config) (s : State) (o : ℕ) (r : RegSession) (key : Key) → Fine s → session_at s o ≡ session.Register r → work_registers r.work ≡ key ∷ [] → r.service ≡ key.service
 proper_service c s o r key g x e =
     All-head (λ (k : Key). r.service ≡ k.service) key [] (subst (All (λ (k : Key). r.service ≡ k.service)) e (each_kept r.service (work_registers r.work) (subst (λ (z : Session). session_proper z ≡ true) x (g.sessions o))))
 

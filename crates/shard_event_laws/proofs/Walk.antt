@@ -1,5 +1,6 @@
 -- The walk: what a step does, once it is counted, is events, and each state between them is known.
 use Rattle.std.proofs.Common.{◌≡◌, ℕ, [], None, refl, ap}
+use Rattle.std.specs.Prelude.{⊤}
 use Rattle.truetime.specs.Reading.{Reading}
 use Rattle.pipeline_lang.specs.declared.config.Config.{Config}
 use Rattle.rss_machine.specs.Effect.{effect}
@@ -28,6 +29,7 @@ use Rattle.shard_event_laws.proofs.Clocks.{Clocked, clocked_same, event_clock, k
 use Rattle.shard_event_laws.proofs.MoveEvents.{of_fates, of_stages, of_shards, of_replicas, of_again, of_begins, of_dies}
 use Rattle.shard_event_laws.proofs.OwnerEvents.{of_rests, of_works, of_leaves, of_does, of_round}
 use Rattle.shard_event_laws.proofs.ShardTurns.{of_turns, of_settles}
+use Rattle.std.specs.Prelude.{⊤}
 
 -- what is known of each state of a step: what stages and the history tell of calls, that messages are sound, and
 -- that an owner with nothing under way awaits nothing
@@ -66,6 +68,9 @@ module _ (c : Config) (at : Reading) (s0 : State) where
 
   pub path_moves : StepMoves c at Running Fresh (λ s. Base s × Path s) (λ s o. BaseAt s o × Path s) (λ s o. BaseDone s o × Path s)
   path_moves = record {
+    E = λ s o. ⊤;
+    ready = λ s o x l e f h. tt;
+    clears = λ s t o x r e i a b l d y z q n h m. tt;
     acting = λ s n o e h. base.acting s n o e h.0;
     heard = λ s o slot exchange e h. base.heard s o slot exchange e h.0;
     runs = base.runs;
@@ -79,7 +84,7 @@ module _ (c : Config) (at : Reading) (s0 : State) where
     settles = λ s o slot attempt shards outcome i a e d h. (base.settles s o slot attempt shards outcome i a e d h.0, on s _ h.0 h.1 (of_settles c at s o slot attempt shards outcome a e d));
     settled = λ s o h. (base.settled s o h.0, h.1);
     works = λ s t o w i b q d h. (base.works s t o w i b q d h.0, goes s t h.0.0.all.told h.0.1.0 h.1 (of_works c at s t o w b d h.0.0.idle));
-    leaves = λ s t o w outs i b q d h. (base.leaves s t o w outs i b q d h.0, goes s _ h.0.0.all.told h.0.1.0 h.1 (of_leaves c at s t o w outs b d h.0.0.runs h.0.0.idle h.0.1.1.0));
+    leaves = λ s t o w outs i b q y d h. ((base_keeps c at).moves.leaves s t o w outs i b q d h.0, goes s _ h.0.0.all.told h.0.1.0 h.1 (of_leaves c at s t o w outs b d h.0.0.runs h.0.0.idle h.0.1.1.0));
     does = λ s t o w outs new a b n q d h. (base.does s t o w outs new a b n q d h.0, on s _ h.0 h.1 (of_does c at s t o w outs new b n q d a h.0.1.1));
     turns = λ s t o a y h. (base.turns s t o a y h.0, on s t h.0 h.1 (of_turns c at s t o a y h.0.0));
     reaches = λ s t o f slot r e i a x y z q d h. (base.reaches s t o f slot r e i a x y z q d h.0, on s t h.0 h.1 (of_round c at s t o _ [] (ap is_with_shards x) d (record { kind = refl; stage = refl; begun = refl; none = refl })));

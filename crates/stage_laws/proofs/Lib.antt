@@ -1,10 +1,3 @@
-pub mod Same
-pub mod Outcomes
-pub mod Walking
-pub mod Ties
-pub mod Moved
-pub mod Ended
 pub mod Apart
-pub mod Steps
 pub mod ScriptRuns
 pub mod BuiltFiles

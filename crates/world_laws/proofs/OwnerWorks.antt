@@ -119,47 +119,47 @@ module _ (c : Config) (at : Reading) (A : OwnerFate → Type 0) (F P : State →
       let w = record (closed s o Ended) { works = record (owner_at s o).works { copy = seen } } in
       w_gives_exit (with_owner s o w) (owner_at s o).stage seen
       (by_stub o (ap (λ (v : Owner). is_stub v.kind) (at_own s o w i) ∙ ap is_stub e) (ap (λ (v : Owner). v.stage) (at_own s o w i)) (sym (ap (λ (v : Owner). v.works.copy) (at_own s o w i))))
-      (λ G a. All-nil G) (k.leaves s (with_owner s o w) o w [] i (stub_done u l e) (quiet refl refl refl) (own_changed s o w s.planned (λ G a. All-nil G)) h)
+      (λ G a. All-nil G) (k.leaves s (with_owner s o w) o w [] i (stub_done u l e) (quiet refl refl refl) tt (own_changed s o w s.planned (λ G a. All-nil G)) h)
 
   w_fixes_work : (s : State) (o : ℕ) (id : ServiceId) (rest : List (ServiceId × FenceWork)) → o < length s.owners → (owner_at s o).works.left ≡ (id, Fix) ∷ rest → R s o → P (fixes c s o id)
   w_fixes_work s o id rest i l h =
       let r = fix_session c s o id in
-      k.leaves s (turns_session s o (session.Fixing r)) o (turned s o (session.Fixing r)) (awaited (round_requests r)) i (fixes_work id rest l) (quiet refl refl refl) (kept_changed s o (turned s o (session.Fixing r)) refl) h
+      k.leaves s (turns_session s o (session.Fixing r)) o (turned s o (session.Fixing r)) (awaited (round_requests r)) i (fixes_work id rest l) (quiet refl refl refl) tt (kept_changed s o (turned s o (session.Fixing r)) refl) h
 
-  w_launches_call : (s : State) (o : ℕ) (x : Op) → o < length s.owners → (owner_at s o).works.left ≡ [] → (owner_at s o).kind ≡ kind.Calling x → IsReady s o x → R s o → P (launches_call c s o at x)
-  w_launches_call s o (op.Read key) i l e d h =
+  w_launches_call : (s : State) (o : ℕ) (x : Op) → o < length s.owners → (owner_at s o).works.left ≡ [] → (owner_at s o).kind ≡ kind.Calling x → IsReady s o x → k.E s o → R s o → P (launches_call c s o at x)
+  w_launches_call s o (op.Read key) i l e d y h =
       let x = session.Register (session_for c s o (work.Read key) key.service) in
-      k.leaves s (with_owner s o (launched s o x)) o (launched s o x) _ i (asks_register key l e d) (quiet refl refl refl) (kept_changed s o (launched s o x) refl) h
-  w_launches_call s o (op.Write key value) i l e d h =
+      k.leaves s (with_owner s o (launched s o x)) o (launched s o x) _ i (asks_register key l e d) (quiet refl refl refl) y (kept_changed s o (launched s o x) refl) h
+  w_launches_call s o (op.Write key value) i l e d y h =
       let x = session.Register (session_for c s o (work.Write key value) key.service) in
-      k.leaves s (with_owner s o (launched s o x)) o (launched s o x) _ i (stamps_register key value l e d) (quiet refl refl refl) (kept_changed s o (launched s o x) refl) h
-  w_launches_call s o (op.Snap keys) i l e d h =
+      k.leaves s (with_owner s o (launched s o x)) o (launched s o x) _ i (stamps_register key value l e d) (quiet refl refl refl) y (kept_changed s o (launched s o x) refl) h
+  w_launches_call s o (op.Snap keys) i l e d y h =
       let t = opening_snapshot (home_of c) o keys (least_for s o (service_of (op.Snap keys))) at in
       let x = session.Snapshot (snap_starts t).after in
-      k.leaves s (with_owner s o (launched s o x)) o (launched s o x) (snap_starts t).outs i (begins_snapshot keys t l e refl) (quiet refl refl refl) (kept_changed s o (launched s o x) refl) h
-  w_launches_call s o (op.Txn reads guard writes) i l e d h =
+      k.leaves s (with_owner s o (launched s o x)) o (launched s o x) (snap_starts t).outs i (begins_snapshot keys t l e refl) (quiet refl refl refl) y (kept_changed s o (launched s o x) refl) h
+  w_launches_call s o (op.Txn reads guard writes) i l e d y h =
       let t = opening_txn (home_of c) o reads guard writes (least_for s o (service_of (op.Txn reads guard writes))) (body_of c (owner_at s o).stage).earliest_end in
       let x = session.Transaction (txn_starts t).after in
-      k.leaves s (with_owner s o (launched s o x)) o (launched s o x) (txn_starts t).outs i (begins_txn reads guard writes t l e refl) (quiet refl refl refl) (kept_changed s o (launched s o x) refl) h
+      k.leaves s (with_owner s o (launched s o x)) o (launched s o x) (txn_starts t).outs i (begins_txn reads guard writes t l e refl) (quiet refl refl refl) y (kept_changed s o (launched s o x) refl) h
 
-  w_fixes_own : (s : State) (o : ℕ) (x : Op) (dep : Dep) (deps : List Dep) → o < length s.owners → (owner_at s o).works.left ≡ [] → (owner_at s o).kind ≡ kind.Calling x → (owner_at s o).works.copy.deps ≡ dep ∷ deps → R s o → P (fixes c s o (service_of x))
-  w_fixes_own s o x dep deps i l e d h =
+  w_fixes_own : (s : State) (o : ℕ) (x : Op) (dep : Dep) (deps : List Dep) → o < length s.owners → (owner_at s o).works.left ≡ [] → (owner_at s o).kind ≡ kind.Calling x → (owner_at s o).works.copy.deps ≡ dep ∷ deps → k.E s o → R s o → P (fixes c s o (service_of x))
+  w_fixes_own s o x dep deps i l e d y h =
       let r = fix_session c s o (service_of x) in
-      k.leaves s (turns_session s o (session.Fixing r)) o (turned s o (session.Fixing r)) (awaited (round_requests r)) i (fixes_own x dep deps l e d) (quiet refl refl refl) (kept_changed s o (turned s o (session.Fixing r)) refl) h
+      k.leaves s (turns_session s o (session.Fixing r)) o (turned s o (session.Fixing r)) (awaited (round_requests r)) i (fixes_own x dep deps l e d) (quiet refl refl refl) y (kept_changed s o (turned s o (session.Fixing r)) refl) h
 
-  w_starts_call : (s : State) (o : ℕ) (x : Op) → o < length s.owners → (owner_at s o).works.left ≡ [] → (owner_at s o).kind ≡ kind.Calling x → R s o → P (starts_call c s o at x)
-  w_starts_call s o (op.Snap keys) i l e h = w_launches_call s o (op.Snap keys) i l e tt h
-  w_starts_call s o (op.Txn reads guard writes) i l e h = w_launches_call s o (op.Txn reads guard writes) i l e tt h
-  w_starts_call s o (op.Read key) i l e h = by_deps (owner_at s o).works.copy.deps refl
+  w_starts_call : (s : State) (o : ℕ) (x : Op) → o < length s.owners → (owner_at s o).works.left ≡ [] → (owner_at s o).kind ≡ kind.Calling x → k.E s o → R s o → P (starts_call c s o at x)
+  w_starts_call s o (op.Snap keys) i l e y h = w_launches_call s o (op.Snap keys) i l e tt y h
+  w_starts_call s o (op.Txn reads guard writes) i l e y h = w_launches_call s o (op.Txn reads guard writes) i l e tt y h
+  w_starts_call s o (op.Read key) i l e y h = by_deps (owner_at s o).works.copy.deps refl
     where
       by_deps : (deps : List Dep) → (owner_at s o).works.copy.deps ≡ deps → P (starts_at_register c s o at (op.Read key) deps)
-      by_deps [] d = w_launches_call s o (op.Read key) i l e d h
-      by_deps (dep ∷ deps) d = w_fixes_own s o (op.Read key) dep deps i l e d h
-  w_starts_call s o (op.Write key value) i l e h = by_deps (owner_at s o).works.copy.deps refl
+      by_deps [] d = w_launches_call s o (op.Read key) i l e d y h
+      by_deps (dep ∷ deps) d = w_fixes_own s o (op.Read key) dep deps i l e d y h
+  w_starts_call s o (op.Write key value) i l e y h = by_deps (owner_at s o).works.copy.deps refl
     where
       by_deps : (deps : List Dep) → (owner_at s o).works.copy.deps ≡ deps → P (starts_at_register c s o at (op.Write key value) deps)
-      by_deps [] d = w_launches_call s o (op.Write key value) i l e d h
-      by_deps (dep ∷ deps) d = w_fixes_own s o (op.Write key value) dep deps i l e d h
+      by_deps [] d = w_launches_call s o (op.Write key value) i l e d y h
+      by_deps (dep ∷ deps) d = w_fixes_own s o (op.Write key value) dep deps i l e d y h
 
   w_calls : (s : State) (o : ℕ) (x : Op) → o < length s.owners → (owner_at s o).works.left ≡ [] → (owner_at s o).kind ≡ kind.Calling x → R s o → P (starts_call c (entered_first s o x at) o at x)
   w_calls s o x i l e h = by_enter (owner_at s o).works.enter refl
@@ -172,15 +172,16 @@ module _ (c : Config) (at : Reading) (A : OwnerFate → Type 0) (F P : State →
 
       by_enter : (b : Bool) → (owner_at s o).works.enter ≡ b → P (starts_call c (if b then enters s o (service_of x) at.latest else s) o at x)
       by_enter true f =
-          w_starts_call (with_owner s o w) o x (there_own s o w i)
-          (ap (λ (v : Owner). v.works.left) (at_own s o w i) ∙ l)
-          (ap (λ (v : Owner). v.kind) (at_own s o w i) ∙ e)
-          (k.works s (with_owner s o w) o w i (enters_own x l e f) (quiet refl refl refl) (own_changed s o w s.planned (λ G a. copy_holds G s o a)) h)
-      by_enter false f = w_starts_call s o x i l e h
+          let t = with_owner s o w in
+          let left = ap (λ (v : Owner). v.works.left) (at_own s o w i) ∙ l in
+          let calls = ap (λ (v : Owner). v.kind) (at_own s o w i) ∙ e in
+          let h' = k.works s t o w i (enters_own x l e f) (quiet refl refl refl) (own_changed s o w s.planned (λ G a. copy_holds G s o a)) h in
+          w_starts_call t o x (there_own s o w i) left calls (k.ready t o x left calls (ap (λ (v : Owner). v.works.enter) (at_own s o w i)) h') h'
+      by_enter false f = w_starts_call s o x i l e (k.ready s o x l e f h) h
 
   w_works_over : (s : State) (o : ℕ) (x : OwnerKind) → o < length s.owners → (owner_at s o).works.left ≡ [] → (owner_at s o).kind ≡ x → R s o → P (works_over c s o at x)
   w_works_over s o (kind.Calling x) i l e h = w_calls s o x i l e h
-  w_works_over s o kind.Fencing i l e h = k.leaves s _ o (closed s o Ended) [] i (fence_done l e) refl (ends_changed [] s o _ (closed s o Ended) _ s.history refl (λ G n a. fenced_stage G a)) h
+  w_works_over s o kind.Fencing i l e h = k.leaves s _ o (closed s o Ended) [] i (fence_done l e) refl tt (ends_changed [] s o _ (closed s o Ended) _ s.history refl (λ G n a. fenced_stage G a)) h
     where
       stage : ℕ
       stage = (owner_at s o).stage
@@ -210,7 +211,7 @@ module _ (c : Config) (at : Reading) (A : OwnerFate → Type 0) (F P : State →
       cond_both (nat_lt time at.earliest) _ _ P
       (λ t. w_goes_through (fence_ends s o id) o works (there_own s o (fence_ended s o id) i) (left_rest s o id (Past time) works i l)
       (k.works s (fence_ends s o id) o (fence_ended s o id) i (is_past id time works l t) (quiet refl refl refl) (fence_changed s o id) h))
-      (λ f. k.leaves s (waits_for s o time) o (record (owner_at s o) { works = record (owner_at s o).works { wait = Some time } }) [] i (waits id time works l) (quiet refl refl refl) (kept_changed s o _ refl) h)
+      (λ f. k.leaves s (waits_for s o time) o (record (owner_at s o) { works = record (owner_at s o).works { wait = Some time } }) [] i (waits id time works l) (quiet refl refl refl) tt (kept_changed s o _ refl) h)
   w_goes_through s o ((id, Fix) ∷ works) i l h = w_fixes_work s o id works i l h
 
   -- the time that an owner waits for has passed
@@ -239,6 +240,7 @@ module _ (c : Config) (at : Reading) (A : OwnerFate → Type 0) (F P : State →
           (ap (λ (v : Owner). v.works.left) (at_own s o w i) ∙ l)
           (ap (λ (v : Owner). v.kind) (at_own s o w i) ∙ f)
           (ready (with_owner s o w) o y (ap (λ (v : Owner). v.works.copy.deps) (at_own s o w i)))
+          (k.clears s (with_owner s o w) o y r e i g f l a b d (quiet refl refl refl) refl h rested)
           rested
       by_kind kind.Fencing f = k.settled (with_owner s o w) o rested
       by_kind (kind.Stubbing u) f = k.settled (with_owner s o w) o rested

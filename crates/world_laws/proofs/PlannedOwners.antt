@@ -202,14 +202,14 @@ still_planned v w k st e f = ap (λ (x : OwnerKind). has_planned x w.started w.s
     by_kind (kind.Stubbing u) f = ap (λ (b : Bool). b && not (is_settling w.session)) (both_true v.started (not (is_settling v.session)) f) ∙ ap (λ (b : Bool). not b) e
 
 -- works that are left are planned, and so are those behind which a round of dependencies is under way
-left_planned : (v : Owner) (x : ServiceId × FenceWork) (rest : List (ServiceId × FenceWork)) → v.works.left ≡ x ∷ rest → OwnerPlanned v → has_planned v.kind v.started v.session ≡ true
+pub left_planned : (v : Owner) (x : ServiceId × FenceWork) (rest : List (ServiceId × FenceWork)) → v.works.left ≡ x ∷ rest → OwnerPlanned v → has_planned v.kind v.started v.session ≡ true
 left_planned v x rest l h = by_flag (has_planned v.kind v.started v.session) refl
   where
     by_flag : (b : Bool) → has_planned v.kind v.started v.session ≡ b → b ≡ true
     by_flag true e = refl
     by_flag false e = absurd (cons_not_nil x rest (sym l ∙ (h.unplanned e).0))
 
-fixing_planned : (v : Owner) → is_fixing v.session ≡ true → OwnerPlanned v → has_planned v.kind v.started v.session ≡ true
+pub fixing_planned : (v : Owner) → is_fixing v.session ≡ true → OwnerPlanned v → has_planned v.kind v.started v.session ≡ true
 fixing_planned v f h = by_flag (has_planned v.kind v.started v.session) refl
   where
     by_flag : (b : Bool) → has_planned v.kind v.started v.session ≡ b → b ≡ true

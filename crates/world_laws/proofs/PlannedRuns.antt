@@ -54,10 +54,10 @@ planned_sends o [] s h = h
 planned_sends o (out ∷ outs) s h = planned_sends o outs (sends_one s o out) (planned_one o s out h)
 
 -- with an owner at rest
-record PlannedAt (s : State) (o : ℕ) : Type 0 where
-  all : AllPlanned s
-  flag : has_planned (owner_at s o).kind (owner_at s o).started (session_at s o) ≡ true
-  settled : is_settling (session_at s o) ≡ false
+pub record PlannedAt (s : State) (o : ℕ) : Type 0 where
+  pub all : AllPlanned s
+  pub flag : has_planned (owner_at s o).kind (owner_at s o).started (session_at s o) ≡ true
+  pub settled : is_settling (session_at s o) ≡ false
 
 planned_at : (s t : State) (o : ℕ) (w : Owner) → o < length s.owners → t.owners ≡ set s.owners o w → is_settling w.session ≡ false → Rested w → AllPlanned s → PlannedAt t o
 planned_at s t o w i e z f h =
@@ -111,7 +111,7 @@ settles_planned s o slot a shards outcome i x h = planned_at v t o w there refl 
     there : o < length v.owners
     there = let k = sends_long u o (tells_decision a outcome shards) in let m = listened_long in omega (arith, i, k, m)
 
-planned_keeps : (c : Config) (at : Reading) → OwnerKeeps c at AllPlanned PlannedAt
+pub planned_keeps : (c : Config) (at : Reading) → OwnerKeeps c at AllPlanned PlannedAt
 planned_keeps c at = record {
   shards = λ s m shard r d h. h;
   replicas = λ s m id replica r d h. planned_set s (notes_served (serves_replica s m id replica r) (message_at s.net m).envelope.owner id r) (message_at s.net m).envelope.owner _ refl (owner_same (owner_at s (message_at s.net m).envelope.owner) _ refl refl refl refl refl refl refl (h (message_at s.net m).envelope.owner)) h;
@@ -141,6 +141,16 @@ planned_kept : (c : Config) → IsKept c AllPlanned PlannedAt
 planned_kept c = record { keeps = planned_keeps c; ticked = λ s at h. h }
 
 -- works are planned
+pub planned_all : (c : Config) (steps : List Step) (s : State) → run c steps ≡ Some s → AllPlanned s
+planned_all c steps s e = kept_run c AllPlanned PlannedAt (planned_kept c) each steps s e
+  where
+    nobody : OwnerPlanned no_owner
+    nobody = new_planned no_owner refl refl (done_planned None no_owner.works refl (λ id i. absurd (true≢false (sym i))) (λ id i j. absurd (none_own id i)))
+
+    each : (o : ℕ) → OwnerPlanned (owner_at (start c) o)
+    each zero = nobody
+    each (suc o) = nobody
+
 pub planned_run : (c : Config) (steps : List Step) (s : State) → run c steps ≡ Some s → WorksPlanned s
 planned_run c steps s e = record {
   each = λ o. (all o).works;

@@ -8,9 +8,10 @@ use Rattle.rss_names.specs.declared.attempt.Attempt.{Attempt}
 use Rattle.rss_names.specs.declared.service.Key.{Key}
 use Rattle.rss_names.specs.declared.service.Target.{Target}
 use Rattle.causal_context.specs.declared.dep.Dep.{Dep}
-use Rattle.causal_context.specs.Seen.{after_read, after_write}
+use Rattle.causal_context.specs.Seen.{after_read, after_write, deps_cleared}
 use Rattle.pipeline_lang.specs.declared.config.Config.{Config}
 use Rattle.rss_model.specs.declared.history.How.{How}
+use Rattle.rss_model.specs.declared.op.Op.{Op}
 use Rattle.rss_wire.specs.declared.message.Fate.{Fate}
 use Rattle.rss_wire.specs.declared.messages.Outcome.{Outcome}
 use Rattle.rss_wire.specs.declared.messages.Request.{Request}
@@ -51,7 +52,7 @@ use Rattle.rss_tables.specs.Lines.{line_at}
 use Rattle.rss_tables.specs.Outs.{slot_shard}
 use Rattle.rss_tables.specs.TransactionSession.{txn_hears}
 use Rattle.rss_tables.specs.SnapshotSession.{snap_hears}
-use Rattle.world_laws.proofs.Doings.{plans, past, fixed, cleared, txn_heard, snap_heard, listened}
+use Rattle.world_laws.proofs.Doings.{plans, past, fixed, cleared, txn_heard, snap_heard, listened, waits, fixes_work, fixes_own, asks_register, stamps_register, begins_snapshot, begins_txn, fence_done, stub_done}
 use Rattle.world_laws.proofs.StageMoves.{AllMoves, Quiet, quiet, StageMove, Dying, BeginNotes, LeavingNotes, DoingNotes, can_end, ended_to}
 
 -- whether what an owner does is no part of a turn of a transaction or a snapshot
@@ -80,6 +81,19 @@ RestingNotes at s o _ (past id x rest time l e) = nat_lt time at.earliest ≡ tr
 RestingNotes at s o _ (fixed id x rest r y l e a d) = ⊤
 RestingNotes at s o _ (cleared r y l e a d) = ⊤
 
+-- where a call leaves its works for a round, its own or that of its dependencies, what is known of one that enters its
+-- service no more
+abbrev pub LaunchNotes : (E : State → ℕ → Type 0) (c : Config) (at : Reading) (s : State) (o : ℕ) (w : Owner) (outs : List Out) → Leaving c at s o w outs → Type 0
+LaunchNotes E c at s o _ _ (waits id time rest l) = ⊤
+LaunchNotes E c at s o _ _ (fixes_work id rest l) = ⊤
+LaunchNotes E c at s o _ _ (fixes_own x dep deps l e d) = E s o
+LaunchNotes E c at s o _ _ (asks_register key l e d) = E s o
+LaunchNotes E c at s o _ _ (stamps_register key value l e d) = E s o
+LaunchNotes E c at s o _ _ (begins_snapshot keys x l e d) = E s o
+LaunchNotes E c at s o _ _ (begins_txn reads guard writes x l e d) = E s o
+LaunchNotes E c at s o _ _ (fence_done l e) = ⊤
+LaunchNotes E c at s o _ _ (stub_done u l e) = ⊤
+
 -- a turn: a line hears its reply, or wakes, or the time that a committed transaction waits for has passed
 pub data ShardTurn (c : Config) (at : Reading) (s : State) (o : ℕ) : State → Type 0 where
   txn_answered : (t : TxnSession) (slot : ℕ) (r : Reply) → session_at s o ≡ session.Transaction t → Heard s o slot r →
@@ -93,8 +107,17 @@ pub data ShardTurn (c : Config) (at : Reading) (s : State) (o : ℕ) : State →
   txn_passes_time : (t : TxnSession) (time : ℕ) → session_at s o ≡ session.Transaction t → waiting_time t t.phase ≡ Some time → nat_lt time at.earliest ≡ true →
       ShardTurn c at s o (txn_turns c s o (txn_passes t t.phase))
 
+-- an owner whose copy's dependencies are stored
+abbrev pub cleared_owner : State → ℕ → Owner
+cleared_owner s o = record (owner_at s o) { works = record (owner_at s o).works { copy = deps_cleared (owner_at s o).works.copy }; session = session.Idle }
+
 -- what has to be shown: as with all moves, but for turns, which are one move each
 pub record StepMoves (c : Config) (at : Reading) (A : OwnerFate → Type 0) (F P : State → Type 0) (R D : State → ℕ → Type 0) : Type 1 where
+  -- what is known of a call at rest that enters its service no more: it has entered, or its dependencies are stored
+  pub E : State → ℕ → Type 0
+  pub ready : (s : State) (o : ℕ) (x : Op) → (owner_at s o).works.left ≡ [] → (owner_at s o).kind ≡ kind.Calling x → (owner_at s o).works.enter ≡ false → R s o → E s o
+  pub clears : (s t : State) (o : ℕ) (x : Op) (r : RegSession) (e : RegEnd) → o < length s.owners → A (owner_at s o).fate → (owner_at s o).kind ≡ kind.Calling x → (owner_at s o).works.left ≡ [] → session_at s o ≡ session.Fixing r → phase_end r.phase ≡ Some e → (owner_at s o).currents ≡ no_currents
+      → Quiet s t → t.owners ≡ set s.owners o (cleared_owner s o) → P s → R t o → E t o
   pub acting : (s : State) (n o : ℕ) → (stage_at s n).owner ≡ Some o → P s → A (owner_at s o).fate
   pub heard : (s : State) (o slot exchange : ℕ) → slot_in (owner_at s o).currents exchange ≡ Some slot → P s → A (owner_at s o).fate
   pub runs : (f : OwnerFate) → is_running f ≡ true → A f
@@ -109,7 +132,7 @@ pub record StepMoves (c : Config) (at : Reading) (A : OwnerFate → Type 0) (F P
       R (plans_stub (sends (listens s o slot) o (tells_decision attempt outcome shards)) o) o
   pub settled : (s : State) (o : ℕ) → R s o → P s
   pub works : (s t : State) (o : ℕ) (w : Owner) → o < length s.owners → Working at s o w → Quiet s t → Changed [] (set s.owners o w) s t → R s o → R t o
-  pub leaves : (s t : State) (o : ℕ) (w : Owner) (outs : List Out) → o < length s.owners → (b : Leaving c at s o w outs) → LeavingNotes c at s o w outs b t → Changed [] (set s.owners o w) s t → R s o → P (sends t o outs)
+  pub leaves : (s t : State) (o : ℕ) (w : Owner) (outs : List Out) → o < length s.owners → (b : Leaving c at s o w outs) → LeavingNotes c at s o w outs b t → LaunchNotes E c at s o w outs b → Changed [] (set s.owners o w) s t → R s o → P (sends t o outs)
   pub does : (s t : State) (o : ℕ) (w : Owner) (outs : List Out) (new : List Dep) → A (owner_at s o).fate → (b : Doing s o w outs new) → IsNoTurn s o w outs new b → DoingNotes c s o w outs new b t → Changed new (set s.owners o w) s t → P s → P (sends t o outs)
   pub reaches : (s t : State) (o : ℕ) (f : RegSession) (slot : ℕ) (r : Reply) (e : RegEnd) → o < length s.owners → A (owner_at s o).fate → session_at s o ≡ session.Register f → Heard s o slot r → phase_end (session_after f (slot_replica slot) r).phase ≡ Some e
       → Quiet s t → Changed [] (set s.owners o (ended_to s o f slot r)) s t → P s → D t o
@@ -221,6 +244,9 @@ module _ (c : Config) (at : Reading) (A : OwnerFate → Type 0) (F P : State →
 
   pub step_moves : StepMoves c at A F P R D
   step_moves = record {
+    E = λ s o. ⊤;
+    ready = λ s o x l e f h. tt;
+    clears = λ s t o x r e i a b l d y z q n h m. tt;
     acting = k.acting;
     heard = k.heard;
     runs = k.runs;
@@ -234,7 +260,7 @@ module _ (c : Config) (at : Reading) (A : OwnerFate → Type 0) (F P : State →
     settles = k.settles;
     settled = k.settled;
     works = k.works;
-    leaves = k.leaves;
+    leaves = λ s t o w outs i b q y d h. k.leaves s t o w outs i b q d h;
     does = λ s t o w outs new a b x y d h. k.does s t o w outs new a b y d h;
     reaches = k.reaches;
     reads = k.reads;
