@@ -1,12 +1,11 @@
 //! What stands in which order.
 
 ghost use Rattle.std.specs.Prelude.{◌≡◌};
-ghost use Rattle.rss_names.specs.Services.{same_service};
 ghost use Rattle.attempt_index.specs.KeyIndex.{service_lt, key_lt};
 
 use crate::index::KeyAttempt;
 use crate::sorted::Ordered;
-use rss_names::{Attempt, Key, ServiceId, is_attempt_before, is_same_key};
+use rss_names::{Attempt, Key, ServiceId, is_attempt_before, is_same_key, is_same_service};
 use rss_wire::{Holder, Skipped};
 
 impl Ordered for Attempt {
@@ -68,16 +67,6 @@ fn is_service_before(a: ServiceId, b: ServiceId) -> bool
         (ServiceId::Txn(m), ServiceId::Txn(n)) | (ServiceId::Reg(m), ServiceId::Reg(n)) => m < n,
         (ServiceId::Txn(_), ServiceId::Reg(_)) => true,
         (ServiceId::Reg(_), ServiceId::Txn(_)) => false,
-    }
-}
-
-// Whether two services are the same.
-fn is_same_service(a: ServiceId, b: ServiceId) -> bool
-    ensures { result ≡ same_service a b }
-{
-    match (a, b) {
-        (ServiceId::Txn(m), ServiceId::Txn(n)) | (ServiceId::Reg(m), ServiceId::Reg(n)) => m == n,
-        _ => false,
     }
 }
 

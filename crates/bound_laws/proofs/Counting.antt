@@ -25,7 +25,7 @@ use Rattle.rss_tables.specs.declared.register_session.RegWork.{RegWork}
 use Rattle.rss_tables.specs.declared.register_session.RegWork.TheVariants as work
 use Rattle.rss_machine.specs.Moves.{sends_one, sends}
 use Rattle.rss_machine.specs.State.{State, owner_at}
-use Rattle.rss_wire.specs.Messages.{same_service}
+use Rattle.rss_names.specs.Services.{same_service}
 use Rattle.world_laws.proofs.Sent.{to_shard, ToShard}
 use Rattle.bound_laws.specs.Counts.{stores_dependencies, is_own_to, own_requests}
 

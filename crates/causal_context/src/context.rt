@@ -19,7 +19,6 @@ use std::marker::Model;
 /// What a stage has seen of each service: of each transaction service the least time of its next
 /// call, the dependencies on registers by ascending register index, and the services used last.
 /// Contracts see also for how many more dependencies there is room.
-#[derive(Debug)]
 pub struct Context {
     least: [Option<u64>; 8],
     deps: Vec<Dep>,

@@ -6,7 +6,7 @@ ghost use Rattle.rss_names.specs.Services.{same_service};
 ghost use Rattle.causal_context.specs.Deps.{greater_dep, put_dep, deps_joined, deps_elsewhere, deps_fenced, given_dep};
 
 use crate::dep::Dep;
-use rss_names::ServiceId;
+use rss_names::{ServiceId, is_same_service};
 use std::alloc::AllocError;
 
 /// The place where a dependency belongs: that of the one on its register, else that where it is to
@@ -66,11 +66,7 @@ pub fn join(deps: &mut Vec<Dep>, others: &[Dep]) -> Result<(), AllocError>
 pub fn is_of(dep: &Dep, id: ServiceId) -> bool
     ensures { result ≡ same_service id dep.now.key.service }
 {
-    match (id, dep.key.service) {
-        (ServiceId::Txn(m), ServiceId::Txn(n)) => m == n,
-        (ServiceId::Reg(m), ServiceId::Reg(n)) => m == n,
-        _ => false,
-    }
+    is_same_service(id, dep.key.service)
 }
 
 /// Takes the dependencies on registers of this service away.

@@ -29,7 +29,7 @@ const MOST_REPLICAS: usize = 7;
 
 /// The rounds of a read, of a write, or of dependencies over the replicas of one register service.
 /// Contracts see it as the tables' session.
-#[derive(Debug, Drop)]
+#[derive(Drop)]
 pub struct RegSession {
     call: u32,
     work: RegWork,

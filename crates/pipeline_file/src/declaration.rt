@@ -12,7 +12,7 @@ use std::alloc::{AllocError, Global};
 
 /// What a name stands for. Registers, shards, keys, pipes and stages share one set of names; the
 /// stages that are killed, and the services, are two sets of their own.
-#[derive(Clone, Copy, Debug, PartialEq, Eq)]
+#[derive(Clone, Copy, PartialEq, Eq)]
 pub enum NameKind {
     Register,
     Shard,
@@ -24,7 +24,7 @@ pub enum NameKind {
 }
 
 /// A set of names that must differ.
-#[derive(Clone, Copy, Debug)]
+#[derive(Clone, Copy)]
 pub enum NameSet {
     Shared,
     Killed,
@@ -32,7 +32,7 @@ pub enum NameSet {
 }
 
 /// A name where a file declares it.
-#[derive(Clone, Copy, Debug)]
+#[derive(Clone, Copy)]
 pub struct Declaration {
     pub kind: NameKind,
     pub name: Name,

@@ -6,7 +6,7 @@ use rss_names::{Name, Seq, ServiceId, ShardId, StageId, Target};
 
 /// What a valid pipeline file says. Every list stands in file order; `services` in the order of
 /// services.
-#[derive(Debug, Drop)]
+#[derive(Drop)]
 pub struct Config {
     /// The number of lost messages, 1 to 8, at which an owner gives a target up.
     pub tries: u8,
@@ -37,7 +37,7 @@ pub struct Config {
 
 /// A service: its name, and the number of its replicas, which is 3, 5 or 7, or 0 for a service of
 /// transactions.
-#[derive(Clone, Copy, Debug, PartialEq, Eq)]
+#[derive(Clone, Copy, PartialEq, Eq)]
 pub struct ServiceDef {
     pub name: Name,
     pub id: ServiceId,
@@ -45,7 +45,7 @@ pub struct ServiceDef {
 }
 
 /// Who puts into a pipe, who takes from it, and how many chunks it holds, 1 to 64.
-#[derive(Clone, Copy, Debug, PartialEq, Eq)]
+#[derive(Clone, Copy, PartialEq, Eq)]
 pub struct PipeEnds {
     pub giver: StageId,
     pub taker: StageId,
@@ -54,7 +54,7 @@ pub struct PipeEnds {
 
 /// What a stage runs. `earliest_end`, at most 1,000,000 microseconds, is how far ahead a
 /// transaction may end at the earliest.
-#[derive(Debug, PartialEq, Eq, Drop)]
+#[derive(Drop)]
 pub struct Body {
     pub script: Script,
     pub earliest_end: u32,
@@ -62,7 +62,7 @@ pub struct Body {
 
 /// The requests of a stage to a target that are lost by order of the file: `count` of them, from
 /// number `first` on, counted from 1 in the order sent.
-#[derive(Clone, Copy, Debug, PartialEq, Eq)]
+#[derive(Clone, Copy, PartialEq, Eq)]
 pub struct Withhold {
     pub stage: StageId,
     pub target: Target,
@@ -71,7 +71,7 @@ pub struct Withhold {
 }
 
 /// A stage that is killed by order of the file in place of its Act of that number.
-#[derive(Clone, Copy, Debug, PartialEq, Eq)]
+#[derive(Clone, Copy, PartialEq, Eq)]
 pub struct KillAt {
     pub stage: StageId,
     pub act: u32,

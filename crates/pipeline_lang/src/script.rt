@@ -3,14 +3,14 @@
 use rss_names::{Key, Name, Seq, StageId};
 
 /// A number, or the value of a variable.
-#[derive(Clone, Copy, Debug, PartialEq, Eq)]
+#[derive(Clone, Copy, PartialEq, Eq)]
 pub enum Term<V> {
     Number(u64),
     Variable(V),
 }
 
 /// A term, or the sum or difference of two terms modulo 2^64.
-#[derive(Clone, Copy, Debug, PartialEq, Eq)]
+#[derive(Clone, Copy, PartialEq, Eq)]
 pub enum Expr<V> {
     One(Term<V>),
     Plus(Term<V>, Term<V>),
@@ -18,14 +18,14 @@ pub enum Expr<V> {
 }
 
 /// A comparison of two expressions.
-#[derive(Clone, Copy, Debug, PartialEq, Eq)]
+#[derive(Clone, Copy, PartialEq, Eq)]
 pub enum Compare<V> {
     Equal(Expr<V>, Expr<V>),
     Less(Expr<V>, Expr<V>),
 }
 
 /// One statement, over variables `V`, keys and registers `K`, stages `S` and pipes `P`.
-#[derive(Debug, PartialEq, Eq, Drop)]
+#[derive(Drop)]
 pub enum Statement<V, K, S, P> {
     /// `let V = EXPR` sets a variable.
     Let(V, Expr<V>),

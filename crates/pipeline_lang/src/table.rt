@@ -13,7 +13,7 @@ use std::marker::Model;
 
 /// A table from names to positions, in file order. Contracts see the list of its names, of which
 /// no two are equal and which are fewer than 65,536.
-#[derive(Debug, Drop)]
+#[derive(Drop)]
 pub struct NameTable {
     names: IndexSet<Name>,
 }

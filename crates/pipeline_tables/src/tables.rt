@@ -3,7 +3,7 @@
 use rss_names::{Name, Seq};
 
 /// The root's own keys. `drivers` is none where the file leaves it to the number of stages.
-#[derive(Debug, Drop)]
+#[derive(Drop)]
 pub struct RootTable {
     pub tries: u8,
     pub max_steps: u32,
@@ -14,7 +14,7 @@ pub struct RootTable {
 }
 
 /// A shard with its keys. `service` is none where the file leaves it to the service `txn`.
-#[derive(Debug, Drop)]
+#[derive(Drop)]
 pub struct ShardTable {
     pub name: Name,
     pub keys: Seq<Name>,
@@ -22,7 +22,7 @@ pub struct ShardTable {
 }
 
 /// A pipe from one stage to another.
-#[derive(Clone, Copy, Debug)]
+#[derive(Clone, Copy)]
 pub struct PipeTable {
     pub name: Name,
     pub from: Name,
@@ -31,7 +31,7 @@ pub struct PipeTable {
 }
 
 /// A stage with the text of its script.
-#[derive(Debug, Drop)]
+#[derive(Drop)]
 pub struct StageTable {
     pub name: Name,
     pub script: Seq<u8>,
@@ -40,14 +40,14 @@ pub struct StageTable {
 
 /// Who is meant by the target of a withhold: a shard, or a replica by its number, 1 to 7. The
 /// service is none where the file leaves it to the service `reg`.
-#[derive(Clone, Copy, Debug)]
+#[derive(Clone, Copy)]
 pub enum TargetName {
     Shard(Name),
     Replica(u8, Option<Name>),
 }
 
 /// The requests of a stage to a target that are to be lost.
-#[derive(Clone, Copy, Debug)]
+#[derive(Clone, Copy)]
 pub struct WithholdTable {
     pub stage: Name,
     pub target: TargetName,
@@ -56,21 +56,21 @@ pub struct WithholdTable {
 }
 
 /// A stage that is to be killed in place of one of its acts.
-#[derive(Clone, Copy, Debug)]
+#[derive(Clone, Copy)]
 pub struct KillTable {
     pub stage: Name,
     pub act: u32,
 }
 
 /// What a service keeps: keys of transactions, or registers.
-#[derive(Clone, Copy, Debug, PartialEq, Eq)]
+#[derive(Clone, Copy, PartialEq, Eq)]
 pub enum ServiceKind {
     Txn,
     Reg,
 }
 
 /// A further service. Only one of kind `Reg` has registers, and its replicas alone have a meaning.
-#[derive(Debug, Drop)]
+#[derive(Drop)]
 pub struct ServiceTable {
     pub name: Name,
     pub kind: ServiceKind,
@@ -79,7 +79,6 @@ pub struct ServiceTable {
 }
 
 /// All tables of a file, each kind in file order.
-#[derive(Debug)]
 pub struct FileTables {
     pub root: RootTable,
     pub shards: Seq<ShardTable>,

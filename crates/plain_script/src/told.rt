@@ -11,7 +11,7 @@ use rss_names::Seq;
 use std::alloc::{AllocError, Global};
 
 /// A number of a pipe that was told to be this value, or the end mark.
-#[derive(Clone, Copy, Debug)]
+#[derive(Clone, Copy)]
 pub(crate) struct Told {
     pub(crate) pipe: u8,
     pub(crate) number: u32,

@@ -11,7 +11,7 @@ use std::alloc::{AllocError, Global};
 use std::marker::Model;
 
 /// An open block: the position of its first statement, and its turns left, this one included.
-#[derive(Clone, Copy, Debug)]
+#[derive(Clone, Copy)]
 pub(crate) struct Block {
     pub(crate) first: usize,
     pub(crate) turns: u64,
@@ -28,7 +28,7 @@ impl Model for Block {
 }
 
 /// What a stage that is over still has to give.
-#[derive(Clone, Copy, Debug, PartialEq, Eq)]
+#[derive(Clone, Copy, PartialEq, Eq)]
 pub(crate) enum Owed {
     /// The end mark of a pipe, under this number.
     EndMark(usize, u64),
@@ -37,7 +37,7 @@ pub(crate) enum Owed {
 }
 
 /// A stage is not spawned yet, between statements, in a call, or over with this still to give.
-#[derive(Debug, Drop)]
+#[derive(Drop)]
 pub(crate) enum Mode {
     Unborn,
     Ready,
@@ -62,7 +62,7 @@ impl Mode {
 /// Where a walk stands: the position of the next statement, the open blocks from the inside out, the
 /// variables by number, and by pipe the last number given, the last chunk taken, and whether its end
 /// mark was given.
-#[derive(Debug, Drop)]
+#[derive(Drop)]
 pub struct StageWalk {
     pub(crate) position: usize,
     pub(crate) blocks: Vec<Block>,

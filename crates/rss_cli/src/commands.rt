@@ -62,7 +62,7 @@ pub fn still_top<S: Source, K: Sink>(
 }
 
 // Why there is no answer.
-#[derive(Clone, Copy, Debug, PartialEq, Eq)]
+#[derive(Clone, Copy, PartialEq, Eq)]
 enum Halt {
     ReadFault,
     OutOfMemory,

@@ -4,7 +4,7 @@ use pipeline_file::FileFault;
 use rss_machine::StepRefusal;
 
 /// Why there is no report.
-#[derive(Clone, Copy, Debug, PartialEq, Eq)]
+#[derive(Clone, Copy, PartialEq, Eq)]
 pub enum Fault {
     /// The words are no command.
     Usage,

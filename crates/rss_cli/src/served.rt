@@ -2,13 +2,12 @@
 
 ghost use Rattle.std.specs.Prelude.{◌≡◌};
 ghost use Rattle.std.specs.List.{list_all};
-ghost use Rattle.rss_names.specs.Services.{same_service};
 ghost use Rattle.rss_machine.specs.Built.{is_register_service as register_service, service_of_script as script_service, is_built_statement as built_statement, is_built_script as built_script, has_few_replicas as few_replicas};
 ghost use Rattle.pipeline_lang.specs.declared.config.Body.{Body as StageBody};
 ghost use Rattle.rss_cli.specs.Served.{is_served, has_places as places, is_within as within};
 
 use pipeline_lang::{Body, Config, ServiceDef, Statement};
-use rss_names::{Key, ServiceId, StageId};
+use rss_names::{Key, ServiceId, StageId, is_same_service};
 
 /// The greatest number of steps that a file can allow.
 const MOST_STEPS: u32 = 200_000;
@@ -32,16 +31,6 @@ fn is_register_service(service: ServiceId) -> bool
     match service {
         ServiceId::Reg(_) => true,
         ServiceId::Txn(_) => false,
-    }
-}
-
-// Whether two services are the same.
-fn is_same_service(a: ServiceId, b: ServiceId) -> bool
-    ensures { result ≡ same_service a b }
-{
-    match (a, b) {
-        (ServiceId::Txn(m), ServiceId::Txn(n)) | (ServiceId::Reg(m), ServiceId::Reg(n)) => m == n,
-        _ => false,
     }
 }
 

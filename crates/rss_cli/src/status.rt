@@ -6,7 +6,7 @@ ghost use Rattle.rss_cli.specs.Statuses.{status_code, status_of};
 use rss_machine::Ending;
 
 /// How a command ended.
-#[derive(Clone, Copy, Debug, PartialEq, Eq)]
+#[derive(Clone, Copy, PartialEq, Eq)]
 pub enum Status {
     /// All stages are settled, and none was killed or unavailable.
     Done,

@@ -4,7 +4,7 @@ use rss_model::How;
 use rss_tables::StubEnd;
 
 /// How a run stands.
-#[derive(Clone, Copy, Debug, PartialEq, Eq)]
+#[derive(Clone, Copy, PartialEq, Eq)]
 pub enum Ending {
     /// All stages are settled, and none was killed or unavailable.
     Done,
@@ -19,7 +19,7 @@ pub enum Ending {
 }
 
 /// How a stage stands.
-#[derive(Clone, Copy, Debug, PartialEq, Eq)]
+#[derive(Clone, Copy, PartialEq, Eq)]
 pub enum StageState {
     Unborn,
     Live,

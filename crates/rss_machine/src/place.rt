@@ -5,14 +5,14 @@ use rss_names::CallId;
 
 /// By what placed calls are sorted: first by the step in which the call takes effect, then by the
 /// order within its service.
-#[derive(Clone, Copy, Debug, PartialEq, Eq, PartialOrd, Ord)]
+#[derive(Clone, Copy, PartialEq, Eq, PartialOrd, Ord)]
 pub struct PlaceKey {
     pub step: u32,
     pub part: PlacePart,
 }
 
 /// The order within a service; at equal steps transactions come before register calls.
-#[derive(Clone, Copy, Debug, PartialEq, Eq, PartialOrd, Ord)]
+#[derive(Clone, Copy, PartialEq, Eq, PartialOrd, Ord)]
 pub enum PlacePart {
     /// A transaction by its time; at equal times those that write come before those that read.
     Txn {
@@ -30,7 +30,7 @@ pub enum PlacePart {
 }
 
 /// A placed call with its key, and whether it has ended.
-#[derive(Clone, Copy, Debug, PartialEq, Eq)]
+#[derive(Clone, Copy, PartialEq, Eq)]
 pub struct KeyedCall {
     pub key: PlaceKey,
     pub call: CallId,
@@ -38,7 +38,7 @@ pub struct KeyedCall {
 }
 
 /// A call's place in the one legal order, counted from 1, and whether the call has ended.
-#[derive(Clone, Copy, Debug, PartialEq, Eq)]
+#[derive(Clone, Copy, PartialEq, Eq)]
 pub struct Placed {
     pub call: CallId,
     pub place: u32,

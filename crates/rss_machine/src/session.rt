@@ -5,7 +5,7 @@ use rss_names::{Attempt, Seq, ShardId};
 
 /// What an owner does: a call, a fence statement, or the stub of a stage that died, which may have an
 /// attempt to settle at its shards.
-#[derive(Debug, PartialEq, Eq, Drop)]
+#[derive(Drop)]
 pub enum OwnerKind {
     Calling(Op),
     Fencing,
@@ -14,7 +14,7 @@ pub enum OwnerKind {
 
 /// What an owner has under way with replicas or shards, over the sessions of register calls `R`, of
 /// transactions `T` and of snapshots `S`.
-#[derive(Debug, Drop)]
+#[derive(Drop)]
 pub enum Session<R, T, S> {
     /// Nothing.
     Idle,

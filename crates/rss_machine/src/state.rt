@@ -5,7 +5,7 @@ use rss_model::How;
 use rss_names::Target;
 
 /// The life of a stage.
-#[derive(Clone, Copy, Debug, PartialEq, Eq)]
+#[derive(Clone, Copy, PartialEq, Eq)]
 pub enum Life {
     /// Not spawned yet.
     Unborn,
@@ -14,7 +14,7 @@ pub enum Life {
 }
 
 /// How an owner stands: a call, a fence statement, or a stub.
-#[derive(Clone, Copy, Debug, PartialEq, Eq)]
+#[derive(Clone, Copy, PartialEq, Eq)]
 pub enum OwnerFate {
     Running,
     /// A call that replied, a fence statement or a stub whose works are done.
@@ -27,7 +27,7 @@ pub enum OwnerFate {
 
 /// The steps in which an owner began, entered its service, sent its own first round and ended; 0
 /// where it has not.
-#[derive(Clone, Copy, Debug, PartialEq, Eq)]
+#[derive(Clone, Copy, PartialEq, Eq)]
 pub struct Dates {
     pub begun: u32,
     pub entered: u32,
@@ -37,7 +37,7 @@ pub struct Dates {
 
 /// A majority of a register's replicas has held this stamp, or a greater one, from this step on and
 /// not before.
-#[derive(Clone, Copy, Debug, PartialEq, Eq)]
+#[derive(Clone, Copy, PartialEq, Eq)]
 pub struct Mark {
     pub stamp: Carstamp,
     pub step: u32,

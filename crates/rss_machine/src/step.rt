@@ -6,7 +6,7 @@ use thiserror::Error;
 use truetime::{Contradiction, Interval};
 
 /// What a step does.
-#[derive(Clone, Copy, Debug, PartialEq, Eq)]
+#[derive(Clone, Copy, PartialEq, Eq)]
 pub enum StepKind {
     /// A stage makes one statement, or goes on with a call that waited for a time or a decision.
     Act(StageId),
@@ -23,14 +23,14 @@ pub enum StepKind {
 }
 
 /// One step, with the reading of the clock that it is made with.
-#[derive(Clone, Copy, Debug, PartialEq, Eq)]
+#[derive(Clone, Copy, PartialEq, Eq)]
 pub struct Step {
     pub kind: StepKind,
     pub at: Interval,
 }
 
 /// A step that was made, and the driver who made it. Driver 0 is no thread: it replays a list.
-#[derive(Clone, Copy, Debug, PartialEq, Eq)]
+#[derive(Clone, Copy, PartialEq, Eq)]
 pub struct Logged {
     pub step: Step,
     pub driver: u8,

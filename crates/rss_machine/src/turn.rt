@@ -4,7 +4,7 @@ use crate::step::StepKind;
 use rss_tables::Await;
 
 /// The next step of a stage, or why it has none.
-#[derive(Clone, Copy, Debug, PartialEq, Eq)]
+#[derive(Clone, Copy, PartialEq, Eq)]
 pub enum Turn {
     Step(StepKind),
     /// The step waits until the true moment has passed this time.
@@ -16,7 +16,7 @@ pub enum Turn {
 }
 
 /// When a stage's act, or its stub's step, is enabled.
-#[derive(Clone, Copy, Debug, PartialEq, Eq)]
+#[derive(Clone, Copy, PartialEq, Eq)]
 pub enum Enabling {
     Never,
     Always,
@@ -25,7 +25,7 @@ pub enum Enabling {
 }
 
 /// What the fates order for a message that is to be delivered.
-#[derive(Clone, Copy, Debug, PartialEq, Eq)]
+#[derive(Clone, Copy, PartialEq, Eq)]
 pub enum Fate {
     Deliver,
     /// It is lost instead.

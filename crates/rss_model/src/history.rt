@@ -7,7 +7,7 @@ use rss_names::{CallId, Seq, StageId};
 use std::alloc::{AllocError, Global};
 
 /// One entry of a history.
-#[derive(Debug, PartialEq, Eq, Drop)]
+#[derive(Drop)]
 pub enum Entry {
     /// A stage begins a call.
     Begin(CallId, StageId, Op),
@@ -37,7 +37,7 @@ impl Entry {
 }
 
 /// A message from stage to stage. Each is given at most once.
-#[derive(Clone, Copy, Debug, PartialEq, Eq)]
+#[derive(Clone, Copy, PartialEq, Eq)]
 pub enum Token {
     /// The start of a spawned stage.
     Spawn(StageId),
@@ -48,7 +48,7 @@ pub enum Token {
 }
 
 /// How a stage is over.
-#[derive(Clone, Copy, Debug, PartialEq, Eq)]
+#[derive(Clone, Copy, PartialEq, Eq)]
 pub enum How {
     Exited,
     Killed,

@@ -13,7 +13,7 @@ pub type Formula = Expr<u8>;
 pub type Guard = Compare<u8>;
 
 /// An operation of one call.
-#[derive(Debug, PartialEq, Eq, Drop)]
+#[derive(Drop)]
 pub enum Op {
     /// Reads a register.
     Read(Key),
@@ -45,7 +45,7 @@ impl Op {
 
 /// What a call was shown of a key: the value, and the number of the call that wrote it. Writer 0 is
 /// the opening value 0.
-#[derive(Clone, Copy, Debug, PartialEq, Eq)]
+#[derive(Clone, Copy, PartialEq, Eq)]
 pub struct Shown {
     pub key: Key,
     pub value: u64,

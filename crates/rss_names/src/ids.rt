@@ -3,10 +3,11 @@
 ghost use Rattle.std.specs.Prelude.{◌≡◌, ℕ, ◌<◌, ◌≤◌, ◌^◌, ◌-◌};
 ghost use Rattle.std.specs.Option.{SomeIff};
 
+use crate::limits::{MOST_REPLICAS, MOST_SHARDS, MOST_STAGES};
 use std::marker::Model;
 
 /// The number of a stage: 1 to 16, in file order.
-#[derive(Clone, Copy, Debug, PartialEq, Eq, PartialOrd, Ord, Hash)]
+#[derive(Clone, Copy, PartialEq, Eq)]
 pub struct StageId {
     number: u8,
 }
@@ -26,7 +27,7 @@ impl StageId {
     pub fn new(number: u8) -> Option<StageId>
         ensures { SomeIff result ((1 ≤ number) × (number ≤ 16)) number }
     {
-        if number == 0 || number > 16 {
+        if number == 0 || number > MOST_STAGES {
             return None;
         }
         Some(StageId { number })
@@ -43,7 +44,7 @@ impl StageId {
 }
 
 /// The number of a shard: 1 to 16, in file order.
-#[derive(Clone, Copy, Debug, PartialEq, Eq, PartialOrd, Ord, Hash)]
+#[derive(Clone, Copy, PartialEq, Eq)]
 pub struct ShardId {
     number: u8,
 }
@@ -63,7 +64,7 @@ impl ShardId {
     pub fn new(number: u8) -> Option<ShardId>
         ensures { SomeIff result ((1 ≤ number) × (number ≤ 16)) number }
     {
-        if number == 0 || number > 16 {
+        if number == 0 || number > MOST_SHARDS {
             return None;
         }
         Some(ShardId { number })
@@ -80,7 +81,7 @@ impl ShardId {
 }
 
 /// The number of a replica of a register service: 1 to 7.
-#[derive(Clone, Copy, Debug, PartialEq, Eq, PartialOrd, Ord, Hash)]
+#[derive(Clone, Copy, PartialEq, Eq)]
 pub struct ReplicaId {
     number: u8,
 }
@@ -100,7 +101,7 @@ impl ReplicaId {
     pub fn new(number: u8) -> Option<ReplicaId>
         ensures { SomeIff result ((1 ≤ number) × (number ≤ 7)) number }
     {
-        if number == 0 || number > 7 {
+        if number == 0 || number > MOST_REPLICAS {
             return None;
         }
         Some(ReplicaId { number })
@@ -117,7 +118,7 @@ impl ReplicaId {
 }
 
 /// The number of a call: at least 1, in the order of beginning.
-#[derive(Clone, Copy, Debug, PartialEq, Eq, PartialOrd, Ord, Hash)]
+#[derive(Clone, Copy, PartialEq, Eq)]
 pub struct CallId {
     number: u32,
 }

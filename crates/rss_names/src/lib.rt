@@ -3,6 +3,7 @@
 
 mod attempt;
 mod ids;
+mod limits;
 mod name;
 mod same;
 mod search;
@@ -12,8 +13,14 @@ mod steps;
 
 pub use attempt::Attempt;
 pub use ids::{CallId, ReplicaId, ShardId, StageId};
+pub use limits::{
+    MOST_KEYS_OF_A_CALL, MOST_OF_A_KIND, MOST_PIPES, MOST_REGISTERS, MOST_REPLICAS, MOST_SHARDS,
+    MOST_STAGES, MOST_STEPS,
+};
 pub use name::{BadName, Name};
-pub use same::{is_attempt_before, is_same_attempt, is_same_key, is_younger_attempt};
+pub use same::{
+    is_attempt_before, is_same_attempt, is_same_key, is_same_service, is_younger_attempt,
+};
 pub use search::{Times1, last_at_most};
 pub use seq::Seq;
 pub use service::{Key, ServiceId, Target};

@@ -13,7 +13,7 @@ const MOST: usize = 16;
 
 /// A name: a lower-case letter, and then at most 15 lower-case letters, digits or `_`. Contracts
 /// see its bytes.
-#[derive(Clone, Copy, Debug)]
+#[derive(Clone, Copy)]
 pub struct Name {
     bytes: [u8; 16],
     len: u8,

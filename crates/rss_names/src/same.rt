@@ -1,21 +1,26 @@
-//! Tests on keys and attempts.
+//! Tests on services, keys and attempts.
 
 ghost use Rattle.std.specs.Prelude.{◌≡◌, ◌&&◌, ◌||◌, ◌==◌, nat_lt};
-ghost use Rattle.rss_names.specs.Services.{same_key};
+ghost use Rattle.rss_names.specs.Services.{same_service, same_key};
 
 use crate::attempt::Attempt;
 use crate::service::{Key, ServiceId};
+
+/// Whether two services are the same.
+pub fn is_same_service(a: ServiceId, b: ServiceId) -> bool
+    ensures { result ≡ same_service a b }
+{
+    match (a, b) {
+        (ServiceId::Txn(m), ServiceId::Txn(n)) | (ServiceId::Reg(m), ServiceId::Reg(n)) => m == n,
+        _ => false,
+    }
+}
 
 /// Whether two keys are the same.
 pub fn is_same_key(a: Key, b: Key) -> bool
     ensures { result ≡ same_key a b }
 {
-    match (a.service, b.service) {
-        (ServiceId::Txn(m), ServiceId::Txn(n)) | (ServiceId::Reg(m), ServiceId::Reg(n)) => {
-            m == n && a.index == b.index
-        }
-        _ => false,
-    }
+    is_same_service(a.service, b.service) && a.index == b.index
 }
 
 /// Whether two attempts are the same.

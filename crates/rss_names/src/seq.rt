@@ -7,7 +7,7 @@ use std::alloc::{AllocError, AllocFailed, Global};
 use std::marker::Model;
 
 /// A vector that contracts see, and compare, as its list of elements.
-#[derive(Clone, Debug, Drop)]
+#[derive(Clone, Drop)]
 pub struct Seq<T> {
     items: Vec<T>,
 }
@@ -56,14 +56,6 @@ impl<T> Seq<T> {
         ensures { result ≡ items.items }
     {
         Seq { items }
-    }
-
-    /// The vector of the elements.
-    pub fn into_vec(self) -> Vec<T>
-        ensures { result.items ≡ self }
-    {
-        let Seq { items } = self;
-        items
     }
 
     /// The elements, in order.

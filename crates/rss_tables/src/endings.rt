@@ -3,7 +3,7 @@
 use rss_names::{CallId, StageId, Target};
 
 /// What a blocked stage waits for.
-#[derive(Clone, Copy, Debug, PartialEq, Eq)]
+#[derive(Clone, Copy, PartialEq, Eq)]
 pub enum Await {
     /// A chunk, or the end mark, of a pipe.
     Take(u8),
@@ -16,7 +16,7 @@ pub enum Await {
 }
 
 /// How a stub ends: all its fences ended, or a target was cut off.
-#[derive(Clone, Copy, Debug, PartialEq, Eq)]
+#[derive(Clone, Copy, PartialEq, Eq)]
 pub enum StubEnd {
     Fenced,
     Unfenced(Target),

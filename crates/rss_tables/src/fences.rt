@@ -1,7 +1,7 @@
 //! What the fence of a service has to do.
 
 /// The work that a fence of one service comes to.
-#[derive(Clone, Copy, Debug, PartialEq, Eq)]
+#[derive(Clone, Copy, PartialEq, Eq)]
 pub enum FenceWork {
     /// Nothing is owed.
     Nothing,

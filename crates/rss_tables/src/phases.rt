@@ -2,7 +2,7 @@
 //! microseconds.
 
 /// How far a read-write transaction has come.
-#[derive(Clone, Copy, Debug, PartialEq, Eq)]
+#[derive(Clone, Copy, PartialEq, Eq)]
 pub enum TxnPhase {
     /// `Lock` was sent to each shard.
     Locking,
@@ -25,7 +25,7 @@ pub enum TxnPhase {
 }
 
 /// How far a snapshot has come.
-#[derive(Clone, Copy, Debug, PartialEq, Eq)]
+#[derive(Clone, Copy, PartialEq, Eq)]
 pub enum SnapPhase {
     /// Each shard was asked at this read time; prepared writers may be skipped.
     First(u64),

@@ -6,7 +6,7 @@ use rss_names::{Key, Seq};
 use rss_wire::RegReply;
 
 /// The work of a register session: one round of dependencies, or the rounds of a call.
-#[derive(Debug, PartialEq, Eq, Drop)]
+#[derive(Drop)]
 pub enum RegWork {
     /// Stores dependencies at a majority.
     Fix(Seq<Dep>),
@@ -15,7 +15,7 @@ pub enum RegWork {
 }
 
 /// How a register session ends.
-#[derive(Clone, Copy, Debug, PartialEq, Eq)]
+#[derive(Clone, Copy, PartialEq, Eq)]
 pub enum RegEnd {
     /// The dependencies are held by a majority.
     Fixed,
@@ -26,7 +26,7 @@ pub enum RegEnd {
 }
 
 /// The round under way.
-#[derive(Clone, Copy, Debug, PartialEq, Eq)]
+#[derive(Clone, Copy, PartialEq, Eq)]
 pub enum RegPhase {
     /// `Fix` was sent; ends when a majority has replied.
     Fixing,

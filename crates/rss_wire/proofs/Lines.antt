@@ -8,7 +8,8 @@ use Rattle.std.specs.HashMap.{HashMap, Updates, get}
 use Rattle.rss_wire.specs.declared.ordinals.Line.{Line}
 use Rattle.rss_wire.specs.declared.message.Message.{Message}
 use Rattle.rss_wire.specs.Line.{line_between, same_line, counted}
-use Rattle.rss_wire.specs.Messages.{same_service, same_target, count_requests}
+use Rattle.rss_names.specs.Services.{same_service}
+use Rattle.rss_wire.specs.Messages.{same_target, count_requests}
 use Rattle.rss_wire.proofs.Counts.{count_requests-append}
 
 pub same_service-true : (x y : ServiceId) → same_service x y ≡ true → x ≡ y

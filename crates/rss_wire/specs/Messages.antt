@@ -1,6 +1,5 @@
 use Rattle.std.specs.Prelude.{ℕ, suc, Bool, true, false, ◌&&◌, ◌==◌, List, [], ◌∷◌, ◌++◌, length, get_or, set, Option, Some, None, if◌then◌else◌, nat_lt}
-use Rattle.rss_names.specs.declared.service.ServiceId.{ServiceId}
-use Rattle.rss_names.specs.declared.service.ServiceId.TheVariants.{Txn, Reg}
+use Rattle.rss_names.specs.Services.{same_service}
 use Rattle.rss_names.specs.declared.service.Target.{Target}
 use Rattle.rss_names.specs.declared.service.Target.TheVariants.{Shard, Replica}
 use Rattle.rss_wire.specs.declared.envelope.Envelope.{Envelope}
@@ -36,13 +35,6 @@ is_sent net m = nat_lt 0 m && nat_lt m (length net)
 -- the message of a number, if it was sent
 abbrev pub sent_message : List Message → ℕ → Option Message
 sent_message net m = if is_sent net m then Some (message_at net m) else None
-
--- whether two services are the same
-abbrev pub same_service : ServiceId → ServiceId → Bool
-same_service (Txn a) (Txn b) = a == b
-same_service (Reg a) (Reg b) = a == b
-same_service (Txn a) (Reg b) = false
-same_service (Reg a) (Txn b) = false
 
 -- whether two targets are the same
 abbrev pub same_target : Target → Target → Bool

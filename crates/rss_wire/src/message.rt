@@ -4,14 +4,14 @@ use crate::envelope::Envelope;
 use crate::messages::{Reply, Request};
 
 /// What a message says.
-#[derive(Debug, PartialEq, Eq, Drop)]
+#[derive(Drop)]
 pub enum Body {
     Request(Request),
     Reply(Reply),
 }
 
 /// What became of a message.
-#[derive(Clone, Copy, Debug, PartialEq, Eq)]
+#[derive(Clone, Copy, PartialEq, Eq)]
 pub enum Fate {
     /// Neither delivered nor lost.
     Pending,
@@ -23,7 +23,7 @@ pub enum Fate {
 }
 
 /// A message that was sent.
-#[derive(Debug, PartialEq, Eq, Drop)]
+#[derive(Drop)]
 pub struct Message {
     pub envelope: Envelope,
     pub body: Body,

@@ -5,7 +5,7 @@ use causal_context::Dep;
 use rss_names::{Attempt, Key, Seq, ShardId};
 
 /// How a coordinator decided an attempt: committed at a time, or aborted.
-#[derive(Clone, Copy, Debug, PartialEq, Eq)]
+#[derive(Clone, Copy, PartialEq, Eq)]
 pub enum Outcome {
     Committed(u64),
     Aborted,
@@ -13,7 +13,7 @@ pub enum Outcome {
 
 /// A version of a key: a value, the commit time of the transaction that wrote it, and its call. The
 /// opening version has value 0, time 0 and writer 0.
-#[derive(Clone, Copy, Debug, PartialEq, Eq)]
+#[derive(Clone, Copy, PartialEq, Eq)]
 pub struct Version {
     pub value: u64,
     pub time: u64,
@@ -21,14 +21,14 @@ pub struct Version {
 }
 
 /// An attempt in the way of a request, with its coordinator.
-#[derive(Clone, Copy, Debug, PartialEq, Eq)]
+#[derive(Clone, Copy, PartialEq, Eq)]
 pub struct Holder {
     pub attempt: Attempt,
     pub coordinator: ShardId,
 }
 
 /// A prepared attempt that a snapshot passed by, with its prepare time.
-#[derive(Clone, Copy, Debug, PartialEq, Eq)]
+#[derive(Clone, Copy, PartialEq, Eq)]
 pub struct Skipped {
     pub attempt: Attempt,
     pub coordinator: ShardId,
@@ -36,7 +36,7 @@ pub struct Skipped {
 }
 
 /// What a replica holds of a register: a value, its stamp, and the call that wrote it.
-#[derive(Clone, Copy, Debug, PartialEq, Eq)]
+#[derive(Clone, Copy, PartialEq, Eq)]
 pub struct RegReply {
     pub value: u64,
     pub stamp: Carstamp,
@@ -44,7 +44,7 @@ pub struct RegReply {
 }
 
 /// A request from a stage's call, fence or stub to a shard or a replica.
-#[derive(Debug, PartialEq, Eq, Drop)]
+#[derive(Drop)]
 pub enum Request {
     /// A transaction asks a shard for its locks. Answered by `Granted`, `Wait` or `Wounded`.
     Lock {
@@ -116,7 +116,7 @@ pub enum Request {
 }
 
 /// A reply of a shard or a replica to one request.
-#[derive(Debug, PartialEq, Eq, Drop)]
+#[derive(Drop)]
 pub enum Reply {
     /// To `Lock`, `Prepare` or `Release`: the attempt lost its locks to an older transaction.
     Wounded,
@@ -169,7 +169,7 @@ pub enum Reply {
 }
 
 /// How far a session has come.
-#[derive(Clone, Copy, Debug, PartialEq, Eq)]
+#[derive(Clone, Copy, PartialEq, Eq)]
 pub enum Progress {
     /// Replies are awaited.
     Going,

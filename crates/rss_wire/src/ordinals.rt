@@ -9,7 +9,7 @@ use std::collections::HashMap;
 
 /// A stage and a target that it sends requests to, as numbers. The kind is 0 for a shard, 1 for a
 /// replica of a transaction service and 2 for one of a register service. A shard has service 0.
-#[derive(Clone, Copy, Debug, PartialEq, Eq, Hash)]
+#[derive(Clone, Copy, PartialEq, Eq, Hash)]
 pub struct Line {
     pub stage: u8,
     pub kind: u8,

@@ -19,7 +19,7 @@ const MOST: usize = 32;
 
 /// The variables of a script in the order of their first mention, without `status`: at most 32.
 /// Contracts see the list of their names.
-#[derive(Debug, Drop)]
+#[derive(Drop)]
 pub struct Variables {
     names: NameTable,
 }
@@ -35,7 +35,7 @@ impl Model for Variables {
 }
 
 /// What the statements above a place have left behind.
-#[derive(Debug, Drop)]
+#[derive(Drop)]
 pub struct Environment {
     pub variables: Variables,
     /// How many statements stand above.

@@ -9,7 +9,7 @@ use rss_names::{Name, Seq};
 use std::alloc::{AllocError, Global};
 
 /// What a name stands for.
-#[derive(Clone, Copy, Debug, PartialEq, Eq)]
+#[derive(Clone, Copy, PartialEq, Eq)]
 pub enum Role {
     Variable,
     Register,
@@ -20,7 +20,7 @@ pub enum Role {
 
 /// A name that stands in a statement: what it stands for, and its token, counted from 0 at the
 /// statement's first word.
-#[derive(Clone, Copy, Debug)]
+#[derive(Clone, Copy)]
 pub struct Mention {
     pub role: Role,
     pub token: u64,

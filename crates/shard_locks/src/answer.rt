@@ -7,7 +7,7 @@ use rss_wire::Holder;
 pub type Holders = Seq<Holder>;
 
 /// The answer to a request for locks.
-#[derive(Debug, PartialEq, Eq, Drop)]
+#[derive(Drop)]
 pub enum LockAnswer {
     /// The attempt holds its locks.
     Granted,

@@ -6,7 +6,7 @@ use std::marker::Model;
 
 /// A reading: the true moment of the reading lies from `earliest` to `latest`, in microseconds.
 /// `earliest` is at most `latest`, which is below 2^62.
-#[derive(Clone, Copy, Debug, PartialEq, Eq)]
+#[derive(Clone, Copy, PartialEq, Eq)]
 pub struct Interval {
     pub earliest: u64,
     pub latest: u64,

@@ -79,21 +79,25 @@ fn snapshot(alloc: Global, read_time: u64, least: u64, skip: bool) -> Result<Req
     })
 }
 
-fn values(alloc: Global, version: Version, skipped: &[Skipped]) -> Result<Reply, AllocError> {
-    Ok(Reply::Values {
-        versions: list_of(alloc, &[(X, version)])?,
-        skipped: list_of(alloc, skipped)?,
-    })
+// Whether a reply shows this version of the key, past these attempts.
+fn shows(reply: &Reply, version: Version, passed: &[Skipped]) -> bool {
+    match reply {
+        Reply::Values { versions, skipped } => {
+            versions.as_slice() == [(X, version)].as_slice() && skipped.as_slice() == passed
+        }
+        _ => false,
+    }
 }
 
-fn blocked(alloc: Global) -> Result<Reply, AllocError> {
-    let holder = Holder {
-        attempt: FIRST,
-        coordinator: coordinator()?,
-    };
-    Ok(Reply::Blocked {
-        holders: list_of(alloc, &[holder])?,
-    })
+// Whether a reply says that the first attempt is in the way.
+fn is_blocked(reply: &Reply) -> bool {
+    match reply {
+        Reply::Blocked { holders } => match holders.as_slice() {
+            [holder] => holder.attempt == FIRST && holder.coordinator.number() == 1,
+            _ => false,
+        },
+        _ => false,
+    }
 }
 
 #[test]
@@ -103,35 +107,32 @@ fn a_snapshot_waits_for_a_completed_write(rt: HostRuntime) -> Result<(), Fail> {
     let granted = serve(&mut shard, lock(alloc, FIRST, &[X])?, 24)?;
     assert!(rt; matches!(granted, Reply::Granted { .. }));
     let prepared = serve(&mut shard, prepare(alloc, FIRST, 54)?, 44)?;
-    assert_eq!(rt; prepared, Reply::Prepared { prepare_time: 44 });
-    let outcome = Outcome::Committed(64);
+    assert!(rt; matches!(prepared, Reply::Prepared { prepare_time: 44 }));
     let decide = Request::Decide {
         attempt: FIRST,
         commit: true,
         time: 44,
     };
-    assert_eq!(rt; serve(&mut shard, decide, 64)?, Reply::Decided { outcome });
-    assert_eq!(rt;
-        serve(&mut shard, snapshot(alloc, 84, 0, true)?, 94)?,
-        blocked(alloc)?
-    );
+    let decided = serve(&mut shard, decide, 64)?;
+    assert!(rt; matches!(decided, Reply::Decided { outcome: Outcome::Committed(64) }));
+    let waits = serve(&mut shard, snapshot(alloc, 84, 0, true)?, 94)?;
+    assert!(rt; is_blocked(&waits));
     let inquire = Request::Inquire { attempt: FIRST };
-    assert_eq!(rt;
-        serve(&mut shard, inquire, 114)?,
-        Reply::Outcome { outcome }
-    );
+    let told = serve(&mut shard, inquire, 114)?;
+    assert!(rt; matches!(told, Reply::Outcome { outcome: Outcome::Committed(64) }));
     let commit = Request::Commit {
         attempt: FIRST,
         commit_time: 64,
     };
-    assert_eq!(rt; serve(&mut shard, commit, 134)?, Reply::Done);
+    let done = serve(&mut shard, commit, 134)?;
+    assert!(rt; matches!(done, Reply::Done));
     let version = Version {
         value: 1,
         time: 64,
         writer: 1,
     };
     let shown = serve(&mut shard, snapshot(alloc, 84, 0, true)?, 154)?;
-    assert_eq!(rt; shown, values(alloc, version, &[])?);
+    assert!(rt; shows(&shown, version, &[]));
     assert_eq!(rt; shard.floor(), 84);
     Ok(())
 }
@@ -144,14 +145,14 @@ fn prepared_shard(alloc: Global) -> Result<Shard, AllocError> {
     Ok(shard)
 }
 
-// What a snapshot shows that passes these by.
-fn opening_past(alloc: Global, skipped: &[Skipped]) -> Result<Reply, AllocError> {
+// Whether a reply shows the opening version of the key, past these attempts.
+fn shows_opening(reply: &Reply, passed: &[Skipped]) -> bool {
     let opening = Version {
         value: 0,
         time: 0,
         writer: 0,
     };
-    values(alloc, opening, skipped)
+    shows(reply, opening, passed)
 }
 
 // The reply to a snapshot that may pass writers by.
@@ -168,15 +169,16 @@ fn a_snapshot_passes_a_writer_above_its_least_time(rt: HostRuntime) -> Result<()
         coordinator: coordinator()?,
         prepare_time: 74,
     };
-    assert_eq!(rt;
-        read(alloc, &mut shard, 194, 0)?,
-        opening_past(alloc, &[passed])?
-    );
-    assert_eq!(rt; read(alloc, &mut shard, 194, 74)?, blocked(alloc)?);
-    assert_eq!(rt; read(alloc, &mut shard, 1054, 0)?, blocked(alloc)?);
-    assert_eq!(rt; read(alloc, &mut shard, 73, 0)?, opening_past(alloc, &[])?);
-    let waiting = snapshot(alloc, 194, 0, false)?;
-    assert_eq!(rt; serve(&mut shard, waiting, 2000)?, blocked(alloc)?);
+    let past = read(alloc, &mut shard, 194, 0)?;
+    assert!(rt; shows_opening(&past, &[passed]));
+    let below = read(alloc, &mut shard, 194, 74)?;
+    assert!(rt; is_blocked(&below));
+    let late = read(alloc, &mut shard, 1054, 0)?;
+    assert!(rt; is_blocked(&late));
+    let before = read(alloc, &mut shard, 73, 0)?;
+    assert!(rt; shows_opening(&before, &[]));
+    let waits = serve(&mut shard, snapshot(alloc, 194, 0, false)?, 2000)?;
+    assert!(rt; is_blocked(&waits));
     Ok(())
 }
 
@@ -187,31 +189,32 @@ fn a_younger_attempt_is_wounded_and_its_guard_too(rt: HostRuntime) -> Result<(),
     let _second = serve(&mut shard, lock(alloc, SECOND, &[X])?, 54)?;
     let first = serve(&mut shard, lock(alloc, FIRST, &[X])?, 64)?;
     assert!(rt; matches!(first, Reply::Granted { .. }));
-    assert_eq!(rt;
-        serve(&mut shard, prepare(alloc, SECOND, 0)?, 74)?,
-        Reply::Wounded
-    );
+    let wounded = serve(&mut shard, prepare(alloc, SECOND, 0)?, 74)?;
+    assert!(rt; matches!(wounded, Reply::Wounded));
     let release = Request::Release {
         attempt: SECOND,
         time: 74,
         last: false,
     };
-    assert_eq!(rt; serve(&mut shard, release, 84)?, Reply::Wounded);
+    let wounded = serve(&mut shard, release, 84)?;
+    assert!(rt; matches!(wounded, Reply::Wounded));
     let release = Request::Release {
         attempt: FIRST,
         time: 94,
         last: true,
     };
-    assert_eq!(rt; serve(&mut shard, release, 94)?, Reply::Released);
+    let released = serve(&mut shard, release, 94)?;
+    assert!(rt; matches!(released, Reply::Released));
     let release = Request::Release {
         attempt: FIRST,
         time: 94,
         last: true,
     };
-    assert_eq!(rt; serve(&mut shard, release, 104)?, Reply::Released);
-    assert_eq!(rt; shard.decision(FIRST), Some(Outcome::Aborted));
+    let released = serve(&mut shard, release, 104)?;
+    assert!(rt; matches!(released, Reply::Released));
+    assert!(rt; matches!(shard.decision(FIRST), Some(Outcome::Aborted)));
     assert_eq!(rt; shard.floor(), 94);
     shard.reopen();
-    assert_eq!(rt; shard.decision(FIRST), None);
+    assert!(rt; shard.decision(FIRST).is_none());
     Ok(())
 }

@@ -3,19 +3,17 @@
 ghost use Rattle.std.specs.Prelude.{◌≡◌, ◌+◌, ◌≤◌, ◌++◌, length, IsTrue};
 ghost use Rattle.std.specs.Option.{option_copied};
 ghost use Rattle.rss_names.specs.declared.service.Target.TheVariants.{Replica};
-ghost use Rattle.rss_names.specs.Services.{same_service};
-ghost use Rattle.rss_wire.specs.Messages.{same_service as same_named};
 ghost use Rattle.rss_machine.specs.Moves.{session_without, round_without};
 ghost use Rattle.world_owners.specs.Parts.{session_of};
 ghost use Rattle.world_owners.specs.Under.{is_fixing, work_in, phase_in, end_in, session_heard, heard_sends, HearsSmallStamps};
 
 use gryff_quorum::RegSession;
-use rss_names::{ReplicaId, ServiceId};
+use rss_names::{ReplicaId, ServiceId, is_same_service};
 use rss_tables::{RegEnd, RegPhase, RegWork};
 use rss_wire::{Outbox, Reply};
 
 /// What an owner has under way.
-#[derive(Debug, Drop)]
+#[derive(Drop)]
 pub enum Doing {
     /// Nothing.
     Idle,
@@ -104,16 +102,5 @@ fn go_on_without(rounds: &mut RegSession, service: ServiceId, replica: ReplicaId
 {
     if is_same_service(rounds.service(), service) {
         let _ = rounds.cut(replica);
-    }
-}
-
-// Whether two services are the same.
-pub(crate) fn is_same_service(a: ServiceId, b: ServiceId) -> bool
-    ensures same { result ≡ same_service a b }
-    ensures named { result ≡ same_named a b }
-{
-    match (a, b) {
-        (ServiceId::Txn(m), ServiceId::Txn(n)) | (ServiceId::Reg(m), ServiceId::Reg(n)) => m == n,
-        _ => false,
     }
 }

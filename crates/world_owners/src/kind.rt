@@ -3,7 +3,7 @@
 use stage_machine::StageCall;
 
 /// What an owner does.
-#[derive(Clone, Copy, Debug, PartialEq, Eq)]
+#[derive(Clone, Copy, PartialEq, Eq)]
 pub enum Kind {
     /// A call of a register.
     Call(StageCall),

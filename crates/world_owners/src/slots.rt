@@ -7,8 +7,7 @@ ghost use Rattle.rss_wire.specs.Messages.{no_message, message_at, same_target};
 ghost use Rattle.rss_tables.specs.Outs.{slot_replica};
 ghost use Rattle.rss_machine.specs.Slots.{slot_in, unless_with, without_target};
 
-use crate::doing::is_same_service;
-use rss_names::{ReplicaId, ServiceId, Target};
+use rss_names::{ReplicaId, ServiceId, Target, is_same_service};
 use rss_wire::Net;
 
 // The replica in whose slot this exchange is current.
