@@ -1,5 +1,5 @@
 -- A stage that gives to a pipe: what its walk has behind it and the state say the same of the pipe.
-use Rattle.std.proofs.Common.{◌≡◌, ℕ, ◌+◌, ◌<◌, ◌≤◌, false, length, get_or, None, refl, ap, ◌∙◌, arith}
+use Rattle.std.proofs.Common.{◌≡◌, ℕ, ◌+◌, ◌<◌, ◌≤◌, false, length, get_or, None, ap, ◌∙◌, arith}
 use Rattle.pipeline_lang.specs.declared.config.Config.{Config}
 use Rattle.rss_model.specs.Scripts.{giver_of}
 use Rattle.rss_model.specs.Walk.{Walk, next_given}
