@@ -12,7 +12,7 @@ use Rattle.pipeline_lang.specs.declared.config.Config.{Config}
 use Rattle.rss_tables.specs.Losses.{target_count, target_place, no_losses, losses_of, one_more_lost, reaches_tries, is_cut, cut_from, is_quorum_lost}
 use Rattle.rss_tables.specs.Round.{count_cut, spare}
 use Rattle.world_laws.proofs.Looks.{looks, get_or_set, get_or_repeat}
-use Rattle.loss_laws.specs.Targets.{IsService, IsShard, HasPlace}
+use Rattle.world_laws.specs.Targets.{IsService, IsShard, HasPlace}
 
 -- a target ends its owner by these losses: that shard is cut off, or a quorum of that replica's service is lost
 abbrev pub IsCut : Config → List ℕ → Target → Type 0

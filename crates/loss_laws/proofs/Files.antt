@@ -14,7 +14,7 @@ use Rattle.rss_machine.specs.Withheld.{lost_from, IsWithheld}
 use Rattle.rss_machine.specs.declared.state.OwnerFate.TheVariants.{CutOff}
 use Rattle.rss_machine.specs.declared.step.Step.{Step}
 use Rattle.loss_laws.specs.Laws.{GoesToReplicas, IsCutOff, NothingWithheld, EndsFirst, StagesTell}
-use Rattle.loss_laws.specs.Targets.{IsService, HasPlace, GivesPlaces, ShardsHavePlaces}
+use Rattle.world_laws.specs.Targets.{IsService, HasPlace, GivesPlaces, ShardsHavePlaces}
 use Rattle.loss_laws.proofs.Near.{replicas_within}
 use Rattle.loss_laws.proofs.Places.{IsTarget, AreTargets}
 use Rattle.loss_laws.proofs.Runs.{losses_counted}

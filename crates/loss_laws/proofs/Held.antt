@@ -15,7 +15,7 @@ use Rattle.rss_machine.specs.declared.state.OwnerFate.{OwnerFate}
 use Rattle.rss_machine.specs.declared.state.OwnerFate.TheVariants.{CutOff}
 use Rattle.world_laws.specs.Calls.{is_stub, Onward}
 use Rattle.world_laws.proofs.Looks.{get_or_past, get_or_set}
-use Rattle.loss_laws.specs.Targets.{HasPlace}
+use Rattle.world_laws.specs.Targets.{HasPlace}
 use Rattle.loss_laws.proofs.Steady.{Steady}
 use Rattle.loss_laws.proofs.Cut.{CutBy, NoneCut, none_more, none_cut}
 use Rattle.loss_laws.proofs.Dies.{CutsOne, EndsStage}

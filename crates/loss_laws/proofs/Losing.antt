@@ -19,7 +19,7 @@ use Rattle.rss_machine.specs.State.{State, Owner, stage_at, owner_at}
 use Rattle.rss_machine.specs.declared.state.OwnerFate.TheVariants.{CutOff}
 use Rattle.world_laws.specs.Calls.{is_stub}
 use Rattle.world_laws.proofs.OwnerMoves.{at_own, there_own}
-use Rattle.loss_laws.specs.Targets.{HasPlace}
+use Rattle.world_laws.specs.Targets.{HasPlace}
 use Rattle.loss_laws.proofs.Steady.{Steady, same, after}
 use Rattle.loss_laws.proofs.Calls.{s_own, s_sends_one}
 use Rattle.loss_laws.proofs.Dies.{CutsOne, EndsStage, LostTo, target_is_lost}

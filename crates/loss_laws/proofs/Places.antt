@@ -11,7 +11,7 @@ use Rattle.rss_names.specs.declared.service.Target.TheVariants.{Shard, Replica}
 use Rattle.pipeline_lang.specs.declared.config.Config.{Config}
 use Rattle.rss_wire.specs.Messages.{same_target}
 use Rattle.rss_tables.specs.Losses.{target_count, target_place}
-use Rattle.loss_laws.specs.Targets.{HasPlace}
+use Rattle.world_laws.specs.Targets.{HasPlace}
 
 -- a replica is one of its service's in the file
 abbrev pub IsWithin : Config → Target → Type 0

@@ -24,7 +24,7 @@ use Rattle.world_laws.proofs.Scripts.{onward_from}
 use Rattle.world_laws.proofs.ToldLaws.{told_step, told_start}
 use Rattle.world_laws.proofs.ToldRuns.{AllTold}
 use Rattle.loss_laws.proofs.Places.{IsWithin, IsTarget, AreTargets}
-use Rattle.loss_laws.specs.Targets.{HasPlace}
+use Rattle.world_laws.specs.Targets.{HasPlace}
 use Rattle.loss_laws.proofs.Cut.{NoneCut, none_cut, nothing_lost}
 use Rattle.loss_laws.proofs.Held.{Held}
 use Rattle.loss_laws.proofs.Steps.{Made, made, held_made, counts, counts_made, never_lost}

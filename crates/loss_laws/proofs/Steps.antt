@@ -22,7 +22,7 @@ use Rattle.rss_machine.specs.declared.step.StepKind.TheVariants.{Act, Go, Lose, 
 use Rattle.world_laws.specs.Calls.{StagesOwn, Onward}
 use Rattle.world_laws.proofs.StagesOwned.{running_there}
 use Rattle.world_laws.proofs.StoreMoves.{IsSent, by_sent}
-use Rattle.loss_laws.specs.Targets.{HasPlace}
+use Rattle.world_laws.specs.Targets.{HasPlace}
 use Rattle.loss_laws.proofs.Steady.{Steady, same}
 use Rattle.loss_laws.proofs.Acts.{s_act, s_delivers, s_stub}
 use Rattle.loss_laws.proofs.Cut.{elsewhere, at_place}

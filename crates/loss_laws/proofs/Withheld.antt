@@ -24,7 +24,7 @@ use Rattle.rss_machine.specs.declared.state.OwnerFate.TheVariants.{Running, Ende
 use Rattle.rss_machine.specs.declared.step.Step.{Step}
 use Rattle.loss_laws.specs.Laws.{IsCutOff, NothingWithheld, EndsFirst, HurtBy, UnfencedBy, StagesTell}
 use Rattle.loss_laws.proofs.Places.{IsTarget, AreTargets}
-use Rattle.loss_laws.specs.Targets.{IsService, IsReplica, HasPlace}
+use Rattle.world_laws.specs.Targets.{IsService, IsReplica, HasPlace}
 use Rattle.loss_laws.proofs.Cut.{CutBy, NoneCut, le_none}
 use Rattle.loss_laws.proofs.Held.{WasCut, runs_uncut}
 use Rattle.loss_laws.proofs.Runs.{counting_run, losses_counted}

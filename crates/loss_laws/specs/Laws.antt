@@ -18,7 +18,7 @@ use Rattle.rss_machine.specs.declared.state.Life.TheVariants.{Over}
 use Rattle.rss_machine.specs.declared.state.OwnerFate.TheVariants.{CutOff}
 use Rattle.rss_machine.specs.declared.step.Step.{Step}
 use Rattle.world_laws.specs.Calls.{is_stub}
-use Rattle.loss_laws.specs.Targets.{IsShard, HasPlace, GivesPlaces, ShardsHavePlaces}
+use Rattle.world_laws.specs.Targets.{IsShard, HasPlace, GivesPlaces, ShardsHavePlaces}
 
 -- each message to a replica goes to one of its service's in the file
 abbrev pub GoesToReplicas : Config → State → Type 0

@@ -31,7 +31,7 @@ use Rattle.rss_cli.specs.Played.{are_built}
 use Rattle.rss_cli.specs.Served.{is_served, is_within, has_places, has_numbers}
 use Rattle.built_laws.specs.Ready.{is_replica}
 use Rattle.built_laws.proofs.BuiltRuns.{ready_run}
-use Rattle.loss_laws.specs.Targets.{GivesPlaces, ShardsHavePlaces}
+use Rattle.world_laws.specs.Targets.{GivesPlaces, ShardsHavePlaces}
 use Rattle.loss_laws.proofs.Files.{withheld}
 use Rattle.event_world.proofs.Built.{built_file}
 

@@ -12,7 +12,7 @@ use Rattle.rss_machine.specs.State.{State}
 use Rattle.rss_machine.specs.declared.step.Step.{Step}
 use Rattle.stage_laws.specs.Apart.{is_apart, KeepsApart, are_numbered}
 use Rattle.stage_laws.proofs.Apart.{statement_apart}
-use Rattle.token_laws.specs.Apart.{SpawnsApart, PipesApart}
+use Rattle.world_laws.specs.Apart.{SpawnsApart, PipesApart}
 use Rattle.token_laws.proofs.ScriptRuns as token_runs
 
 -- a statement that is not apart stands nowhere

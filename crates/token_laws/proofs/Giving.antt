@@ -7,7 +7,7 @@ use Rattle.rss_model.specs.Walked.{Walked}
 use Rattle.rss_machine.specs.Standing.{stage_state, is_done}
 use Rattle.rss_machine.specs.State.{State, stage_at, pipe_at}
 use Rattle.rss_machine.specs.declared.state.Life.TheVariants as life
-use Rattle.token_laws.specs.Apart.{SpawnsApart, PipesApart}
+use Rattle.world_laws.specs.Apart.{SpawnsApart, PipesApart}
 use Rattle.token_laws.specs.Kept.{WalkKept}
 use Rattle.token_laws.specs.Tied.{given_to, Tied}
 use Rattle.token_laws.proofs.Between.{IsBetween, between, walked_now}
