@@ -10,6 +10,7 @@ use Rattle.pipeline_lang.specs.Config.{replicas_of}
 use Rattle.pipeline_lang.specs.declared.config.Config.{Config}
 use Rattle.rss_model.specs.declared.history.How.TheVariants.{Unavailable}
 use Rattle.rss_wire.specs.declared.envelope.Envelope.{Envelope}
+use Rattle.world_laws.specs.Calls.{is_stub}
 use Rattle.world_laws.proofs.Later.{later_run}
 use Rattle.rss_tables.specs.Losses.{is_cut, cut_from, cut_replicas, is_quorum_lost}
 use Rattle.rss_tables.specs.Round.{count_cut, spare}
@@ -17,12 +18,14 @@ use Rattle.rss_tables.specs.declared.endings.StubEnd.TheVariants.{Fenced, Unfenc
 use Rattle.rss_machine.specs.Run.{run}
 use Rattle.rss_machine.specs.Standing.{is_running, stub_end, stub_end_of}
 use Rattle.rss_machine.specs.State.{State, stage_at, owner_at}
-use Rattle.rss_machine.specs.Withheld.{is_target_withheld, withheld_from, is_quorum_withheld, IsWithheld}
+use Rattle.rss_machine.specs.Withheld.{is_target_withheld, withheld_from, is_quorum_withheld, IsWithheld, is_statement, HurtBy}
+use Rattle.rss_machine.specs.declared.session.OwnerKind.{OwnerKind}
+use Rattle.rss_machine.specs.declared.session.OwnerKind.TheVariants.{Calling, Fencing, Stubbing}
 use Rattle.rss_machine.specs.declared.state.Life.TheVariants.{Over}
 use Rattle.rss_machine.specs.declared.state.OwnerFate.{OwnerFate}
 use Rattle.rss_machine.specs.declared.state.OwnerFate.TheVariants.{Running, Ended, Dropped, CutOff}
 use Rattle.rss_machine.specs.declared.step.Step.{Step}
-use Rattle.loss_laws.specs.Laws.{IsCutOff, NothingWithheld, EndsFirst, HurtBy, UnfencedBy, StagesTell}
+use Rattle.loss_laws.specs.Laws.{IsCutOff, NothingWithheld, EndsFirst, UnfencedBy, StagesTell}
 use Rattle.loss_laws.proofs.Places.{IsTarget, AreTargets}
 use Rattle.world_laws.specs.Targets.{IsService, IsReplica, HasPlace}
 use Rattle.loss_laws.proofs.Cut.{CutBy, NoneCut, le_none}
@@ -164,13 +167,19 @@ unfenced_cut (CutOff other) target e = same e
     same : Some (Unfenced other) ≡ Some (Unfenced target) → CutOff other ≡ CutOff target
     same e = cc
 
+-- who is no stub is a statement
+statement_is : (k : OwnerKind) → is_stub k ≡ false → is_statement k ≡ true
+statement_is (Calling x) e = refl
+statement_is Fencing e = refl
+statement_is (Stubbing u) e = absurd (true≢false e)
+
 pub stages_tell : (c : Config) (steps : List Step) (s : State) → run c steps ≡ Some s → 1 ≤ c.tries → AreTargets c s → StagesTell c steps s
 stages_tell c steps s e l p = record { unavailable = unavailable; unfenced = λ n target q. unfenced n target (stage_at s n).stub refl q }
   where
     unavailable : (n : ℕ) → (stage_at s n).life ≡ Over Unavailable → HurtBy c steps s n
     unavailable n q =
         let h = (counting_run c steps s e l p).held.hurt (n - 1) q in
-        record { owner = h.owner; target = h.target; of_stage = h.of_stage; of_kind = h.of_kind; cut = h.cut; withheld = was_withheld c steps s e l p h.owner h.target h.cut }
+        record { owner = h.owner; target = h.target; of_stage = h.of_stage; of_kind = statement_is _ h.of_kind; cut = h.cut; withheld = was_withheld c steps s e l p h.owner h.target h.cut }
 
     none : (target : Target) → None ≡ Some (Unfenced target) → ⊥
     none target e = cc

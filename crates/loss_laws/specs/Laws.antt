@@ -1,5 +1,5 @@
 -- What holds of losses in every run.
-use Rattle.std.specs.Prelude.{◌≡◌, ℕ, ◌≤◌, ◌-◌, true, ◌⊎◌, ◌++◌, [], ◌∷◌, false, List, Some}
+use Rattle.std.specs.Prelude.{◌≡◌, ℕ, ◌≤◌, true, ◌⊎◌, ◌++◌, [], ◌∷◌, false, List, Some}
 use Rattle.rss_names.specs.declared.service.ServiceId.{ServiceId}
 use Rattle.rss_names.specs.declared.service.ServiceId.TheVariants.{Reg}
 use Rattle.rss_names.specs.declared.service.Target.{Target}
@@ -13,11 +13,10 @@ use Rattle.rss_tables.specs.declared.endings.StubEnd.TheVariants.{Unfenced}
 use Rattle.rss_machine.specs.Run.{run}
 use Rattle.rss_machine.specs.Standing.{is_running, stub_end_of}
 use Rattle.rss_machine.specs.State.{State, start, stage_at, owner_at}
-use Rattle.rss_machine.specs.Withheld.{lost_from, is_target_withheld, is_quorum_withheld, IsWithheld}
+use Rattle.rss_machine.specs.Withheld.{lost_from, is_target_withheld, is_quorum_withheld, IsWithheld, HurtBy}
 use Rattle.rss_machine.specs.declared.state.Life.TheVariants.{Over}
 use Rattle.rss_machine.specs.declared.state.OwnerFate.TheVariants.{CutOff}
 use Rattle.rss_machine.specs.declared.step.Step.{Step}
-use Rattle.world_laws.specs.Calls.{is_stub}
 use Rattle.world_laws.specs.Targets.{IsShard, HasPlace, GivesPlaces, ShardsHavePlaces}
 
 -- each message to a replica goes to one of its service's in the file
@@ -69,15 +68,6 @@ pub record EndsFirst (c : Config) (steps : List Step) (step : Step) (t : State) 
 abbrev pub OwnersEndAsWithheld : Type 0
 OwnersEndAsWithheld =
     (c : Config) (steps : List Step) (step : Step) (s t : State) (o : ℕ) → run c steps ≡ Some s → run c (steps ++ step ∷ []) ≡ Some t → GivesPlaces c → ShardsHavePlaces t → is_running (owner_at s o).fate ≡ true → EndsFirst c steps step t o
-
--- a call or a fence statement of a stage that was cut off from a target, which was withheld from it
-pub record HurtBy (c : Config) (steps : List Step) (s : State) (n : ℕ) : Type 0 where
-  pub owner : ℕ
-  pub target : Target
-  pub of_stage : (owner_at s owner).stage - 1 ≡ n - 1
-  pub of_kind : is_stub (owner_at s owner).kind ≡ false
-  pub cut : (owner_at s owner).fate ≡ CutOff target
-  pub withheld : IsWithheld c steps owner target
 
 -- the stub of a stage, cut off from a target, which was withheld from it
 pub record UnfencedBy (c : Config) (steps : List Step) (s : State) (n : ℕ) (target : Target) : Type 0 where

@@ -1,6 +1,7 @@
 -- What the steps withhold from an owner: a target of which it lost so many messages while it ran
--- that it gives the target up, and with it a shard or a quorum.
-use Rattle.std.specs.Prelude.{ℕ, zero, suc, ◌+◌, Bool, false, ◌&&◌, ◌==◌, List, [], ◌∷◌, nat_le, nat_lt, if◌then◌else◌, IsTrue}
+-- that it gives the target up, and with it a shard or a quorum. And what a stage is hurt by that is
+-- over as unavailable.
+use Rattle.std.specs.Prelude.{◌≡◌, ℕ, zero, suc, ◌+◌, ◌-◌, Bool, true, false, ◌&&◌, ◌==◌, List, [], ◌∷◌, nat_le, nat_lt, if◌then◌else◌, IsTrue}
 use Rattle.rss_names.specs.declared.service.ServiceId.{ServiceId}
 use Rattle.rss_names.specs.declared.service.Target.{Target}
 use Rattle.rss_names.specs.declared.service.Target.TheVariants.{Shard, Replica}
@@ -12,6 +13,9 @@ use Rattle.rss_tables.specs.Round.{spare}
 use Rattle.rss_machine.specs.Effect.{stepped}
 use Rattle.rss_machine.specs.Standing.{is_running}
 use Rattle.rss_machine.specs.State.{State, start, owner_at}
+use Rattle.rss_machine.specs.declared.session.OwnerKind.{OwnerKind}
+use Rattle.rss_machine.specs.declared.session.OwnerKind.TheVariants.{Calling, Fencing, Stubbing}
+use Rattle.rss_machine.specs.declared.state.OwnerFate.TheVariants.{CutOff}
 use Rattle.rss_machine.specs.declared.step.Step.{Step}
 use Rattle.rss_machine.specs.declared.step.StepKind.{StepKind}
 use Rattle.rss_machine.specs.declared.step.StepKind.TheVariants.{Lose}
@@ -50,3 +54,19 @@ is_quorum_withheld c steps o service =
 abbrev pub IsWithheld : Config → List Step → ℕ → Target → Type 0
 IsWithheld c steps o (Shard shard) = IsTrue (is_target_withheld c steps o (Shard shard))
 IsWithheld c steps o (Replica service replica) = IsTrue (is_quorum_withheld c steps o service)
+
+-- whether an owner is a statement that its stage made, a call or a fence, and not the stub of a stage that died
+abbrev pub is_statement : OwnerKind → Bool
+is_statement (Calling x) = true
+is_statement Fencing = true
+is_statement (Stubbing unsettled) = false
+
+-- what hurt a stage: a statement of it was cut off from a target, which the steps withheld from that
+-- statement. Stages of numbers 0 and 1 stand in one place
+pub record HurtBy (c : Config) (steps : List Step) (s : State) (n : ℕ) : Type 0 where
+  pub owner : ℕ
+  pub target : Target
+  pub of_stage : (owner_at s owner).stage - 1 ≡ n - 1
+  pub of_kind : is_statement (owner_at s owner).kind ≡ true
+  pub cut : (owner_at s owner).fate ≡ CutOff target
+  pub withheld : IsWithheld c steps owner target
