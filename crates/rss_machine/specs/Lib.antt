@@ -19,14 +19,5 @@ pub mod Withheld
 pub mod Headline
 pub mod Drivers
 pub mod Generated
-pub mod Sampling
-pub mod RowsRegister
-pub mod RowsRefused
-pub mod RowsTransactions
-pub mod RowsSnapshots
-pub mod RowsServices
-pub mod RowsPolicy
-pub mod RowsWithheld
-pub mod Samples
 pub mod Serial
 pub mod Budget

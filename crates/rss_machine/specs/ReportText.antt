@@ -234,3 +234,7 @@ calls_part c s places true = sum_line (sums_of s.history s.history) s.steps
 unfoldable pub report_text : Config → State → List Placed → List ℕ → Bool → List ℕ
 report_text c s places firsts sum =
     calls_part c s places sum ++ stage_lines c s 1 (length s.stages) ++ service_lines c.services firsts s.planned ++ ending_line (ending_of c s)
+
+-- the report of a state with its places, where no service has counted a fence before
+abbrev pub report_of : Config → State → List ℕ
+report_of c s = report_text c s (places_of s) [] false

@@ -1,5 +1,7 @@
--- The serial policy: one stage after another makes its steps, over a clock that steps on.
-use Rattle.std.specs.Prelude.{ℕ, zero, suc, ◌+◌, ◌-◌, max, Bool, true, false, List, [], ◌∷◌, ◌++◌, length, Option, Some, None, if◌then◌else◌}
+-- The serial policy: one stage after another makes its steps, over a clock that steps on until the end
+-- of time.
+use Rattle.std.specs.Prelude.{ℕ, zero, suc, ◌+◌, ◌-◌, ◌^◌, max, nat_lt, Bool, true, false, List, [], ◌∷◌, ◌++◌, length, Option, Some, None, if◌then◌else◌}
+use Rattle.std.specs.Option.{option_map}
 use Rattle.truetime.specs.Reading.{Reading}
 use Rattle.pipeline_lang.specs.declared.config.Config.{Config}
 use Rattle.rss_tables.specs.declared.endings.Await.{Await}
@@ -11,7 +13,8 @@ use Rattle.rss_machine.specs.declared.step.StepKind.{StepKind}
 use Rattle.rss_machine.specs.declared.turn.Turn.{Turn}
 use Rattle.rss_machine.specs.declared.turn.Turn.TheVariants as turn
 
--- a clock that goes on by a tick at each reading; a reading reaches half to both sides of its time
+-- a clock that goes on by a tick at each reading, as long as the reading ends below 2^62; a reading
+-- reaches half to both sides of its time
 pub record Stepping : Type 0 where
   pub now : ℕ
   pub tick : ℕ
@@ -25,21 +28,30 @@ serial_clock = record { now = 1000; tick = 10; half = 5 }
 abbrev pub reading_of : Stepping → Reading
 reading_of clock = record { earliest = clock.now - clock.half; latest = clock.now + clock.half }
 
--- the clock after one more reading, and after a reading that begins above a time
-abbrev pub ticked : Stepping → Stepping
-ticked clock = record clock { now = clock.now + clock.tick }
+-- whether a clock's reading at a time ends below 2^62
+abbrev pub can_read_at : Stepping → ℕ → Bool
+can_read_at clock time = nat_lt (time + clock.half) (2 ^ 62)
 
-abbrev pub passed : Stepping → ℕ → Stepping
-passed clock time = record clock { now = max (clock.now + clock.tick) (time + 1 + clock.half) }
+-- the clock after one more reading: it stays as it is where that would reach 2^62
+abbrev pub ticked : Stepping → Stepping
+ticked clock = if can_read_at clock (clock.now + clock.tick) then record clock { now = clock.now + clock.tick } else clock
+
+-- the clock at a time, if it can read there
+abbrev pub moved_to : Stepping → ℕ → Option Stepping
+moved_to clock time = if can_read_at clock time then Some (record clock { now = time }) else None
+
+-- the clock after a reading that begins above a time, if there is one
+abbrev pub passed : Stepping → ℕ → Option Stepping
+passed clock time = moved_to clock (max (clock.now + clock.tick) (time + 1 + clock.half))
 
 -- a step of this kind with the clock's reading, and the clock behind it
 abbrev pub step_with : StepKind → Stepping → Step × Stepping
 step_with kind clock = (record { kind = kind; at = reading_of clock }, clock)
 
--- the step of a turn, if it is one
+-- the step of a turn, if it is one; the clock may have no reading above the time that a turn waits for
 abbrev pub turn_step : Stepping → Turn → Option (Step × Stepping)
 turn_step clock (turn.Step kind) = Some (step_with kind (ticked clock))
-turn_step clock (turn.Past kind time) = Some (step_with kind (passed clock time))
+turn_step clock (turn.Past kind time) = option_map (step_with kind) (passed clock time)
 turn_step clock (turn.Blocked a) = None
 turn_step clock turn.Unborn = None
 turn_step clock turn.Over = None

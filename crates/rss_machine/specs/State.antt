@@ -73,10 +73,10 @@ pub record State : Type 0 where
   pub net : List Message
   -- the shards: number n stands at place n - 1
   pub shards : List Shard
-  -- the replicas of each session.Register service: what each holds of each session.Register, by the session.Register's
+  -- the replicas of each register service: what each holds of each register, by the register's
   -- index over all services; service and replica number n stand at place n - 1
   pub replicas : List (List (List RegReply))
-  -- of each session.Register, when a majority first held which stamp, in ascending order
+  -- of each register, when a majority first held which stamp, in ascending order
   pub marks : List (List Mark)
   -- how many fences were planned of each service, by its place in the order of services
   pub planned : List ℕ

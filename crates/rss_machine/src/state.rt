@@ -25,8 +25,8 @@ pub enum OwnerFate {
     CutOff(Target),
 }
 
-/// The steps in which an owner began, entered its service, sent its own first round and ended; 0
-/// where it has not.
+/// The steps in which an owner began, entered its service, sent its own first round and was over: it
+/// ended, its stage was killed, or a target was cut off from it. 0 where it has not.
 #[derive(Clone, Copy, PartialEq, Eq)]
 pub struct Dates {
     pub begun: u32,

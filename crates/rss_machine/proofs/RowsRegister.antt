@@ -1,24 +1,17 @@
 -- Samples of runs over registers, each computed.
-use Rattle.std.specs.Prelude.{◌≡◌, ℕ, Bool, true, false, List, [], ◌∷◌, ◌++◌, Option, Some, None, codes, refl}
-use Rattle.rss_names.specs.declared.service.Key.{Key}
-use Rattle.rss_names.specs.declared.service.ServiceId.TheVariants.{Txn, Reg}
-use Rattle.rss_names.specs.declared.service.Target.TheVariants.{Shard, Replica}
+use Rattle.std.specs.Prelude.{◌≡◌, List, [], ◌∷◌, Some, codes, refl}
+use Rattle.rss_names.specs.declared.service.ServiceId.TheVariants.{Reg}
 use Rattle.pipeline_lang.specs.declared.config.Config.{Config}
 use Rattle.pipeline_lang.specs.declared.script.Statement.TheVariants as statement
-use Rattle.pipeline_lang.specs.declared.script.Expr.TheVariants.{One, Plus, Minus}
-use Rattle.pipeline_lang.specs.declared.script.Term.TheVariants.{Number, Variable}
-use Rattle.pipeline_lang.specs.declared.script.Compare.TheVariants.{Equal, Less}
+use Rattle.rss_machine.proofs.SampleFiles.{first_register, second_register, number, body, two_services, bare, one_register, write_then_read}
 use Rattle.rss_machine.specs.declared.step.Step.{Step}
 use Rattle.rss_machine.specs.declared.step.StepKind.TheVariants.{Act, Go, Lose, Again, Kill, Stub}
-use Rattle.rss_machine.specs.Sampling.{step, lines, replay_report, serial_report, serial_sum}
-use Rattle.rss_machine.specs.declared.step.StepRefusal.TheVariants as cause
-use Rattle.rss_wire.specs.declared.refusal.NetRefusal.TheVariants as net
-use Rattle.rss_machine.specs.Run.{run, run_from, first_refused, refused_from}
+use Rattle.rss_machine.proofs.Sampling.{step, lines, replay_report}
+use Rattle.rss_machine.specs.Run.{run, run_from}
 use Rattle.rss_machine.specs.Refusal.{refusal}
 use Rattle.rss_machine.specs.Effect.{effect}
 use Rattle.rss_machine.specs.Endings.{ending_of}
 use Rattle.rss_machine.specs.ReportText.{report_text, call_line, stage_line}
-use Rattle.rss_machine.specs.Serial.{serial_from}
 use Rattle.rss_tables.specs.ShardRow.{shard_after, shard_reply}
 use Rattle.rss_tables.specs.ReplicaRow.{replica_after, replica_reply}
 use Rattle.rss_model.specs.Cursor.{statements_to_end}
@@ -26,26 +19,6 @@ use Rattle.rss_model.specs.History.{has_ended, reply_of}
 use Rattle.rss_model.specs.Legal.{table_at}
 use Rattle.rss_model.specs.Walk.{all_zero}
 use Rattle.std.specs.Fmt.{digits}
-
-abbrev pub smallest_file : Config
-smallest_file = record {
-  tries = 3;
-  max_steps = 100000;
-  drivers = 1;
-  services = record { name = codes "txn"; id = Txn 1; replicas = 0 } ∷ record { name = codes "reg"; id = Reg 1; replicas = 3 } ∷ [];
-  registers = codes "r" ∷ [];
-  register_services = Reg 1 ∷ [];
-  shards = [];
-  shard_services = [];
-  keys = [];
-  homes = [];
-  pipes = [];
-  pipe_ends = [];
-  stages = codes "a" ∷ [];
-  bodies = record { script = statement.Write (record { service = Reg 1; index = 0 }) (One (Number 5)) ∷ statement.Read 1 (record { service = Reg 1; index = 0 }) ∷ []; earliest_end = 2000 } ∷ [];
-  withholds = [];
-  kills = [];
-}
 
 abbrev pub smallest_steps : List Step
 smallest_steps =
@@ -57,7 +30,7 @@ smallest_steps =
     []
 
 -- a register is written and read back
-smallest : replay_report smallest_file smallest_steps ≡ Some (lines (
+smallest : replay_report write_then_read smallest_steps ≡ Some (lines (
     codes "call 1 a write r 5 ok place 1" ∷
     codes "call 2 a read r = 5 by 1 ok place 2" ∷
     codes "stage a exited" ∷
@@ -67,23 +40,11 @@ unfolding run run_from refusal effect shard_after shard_reply replica_after repl
 smallest = refl
 
 abbrev pub place_is_not_call_number_file : Config
-place_is_not_call_number_file = record {
-  tries = 3;
-  max_steps = 100000;
-  drivers = 2;
-  services = record { name = codes "txn"; id = Txn 1; replicas = 0 } ∷ record { name = codes "reg"; id = Reg 1; replicas = 3 } ∷ [];
+place_is_not_call_number_file = record bare {
   registers = codes "r" ∷ codes "q" ∷ [];
   register_services = Reg 1 ∷ Reg 1 ∷ [];
-  shards = [];
-  shard_services = [];
-  keys = [];
-  homes = [];
-  pipes = [];
-  pipe_ends = [];
   stages = codes "a" ∷ codes "b" ∷ [];
-  bodies = record { script = statement.Write (record { service = Reg 1; index = 0 }) (One (Number 1)) ∷ []; earliest_end = 2000 } ∷ record { script = statement.Write (record { service = Reg 1; index = 1 }) (One (Number 2)) ∷ []; earliest_end = 2000 } ∷ [];
-  withholds = [];
-  kills = [];
+  bodies = body 2000 (statement.Write first_register (number 1) ∷ []) ∷ body 2000 (statement.Write second_register (number 2) ∷ []) ∷ [];
 }
 
 abbrev pub place_is_not_call_number_steps : List Step
@@ -106,23 +67,9 @@ unfolding run run_from refusal effect shard_after shard_reply replica_after repl
 place-is-not-call-number = refl
 
 abbrev dependency_first_file : Config
-dependency_first_file = record {
-  tries = 3;
-  max_steps = 100000;
-  drivers = 2;
-  services = record { name = codes "txn"; id = Txn 1; replicas = 0 } ∷ record { name = codes "reg"; id = Reg 1; replicas = 3 } ∷ [];
-  registers = codes "r" ∷ [];
-  register_services = Reg 1 ∷ [];
-  shards = [];
-  shard_services = [];
-  keys = [];
-  homes = [];
-  pipes = [];
-  pipe_ends = [];
+dependency_first_file = record one_register {
   stages = codes "a" ∷ codes "b" ∷ [];
-  bodies = record { script = statement.Write (record { service = Reg 1; index = 0 }) (One (Number 5)) ∷ []; earliest_end = 2000 } ∷ record { script = statement.Read 1 (record { service = Reg 1; index = 0 }) ∷ statement.Read 2 (record { service = Reg 1; index = 0 }) ∷ []; earliest_end = 2000 } ∷ [];
-  withholds = [];
-  kills = [];
+  bodies = body 2000 (statement.Write first_register (number 5) ∷ []) ∷ body 2000 (statement.Read 1 first_register ∷ statement.Read 2 first_register ∷ []) ∷ [];
 }
 
 abbrev dependency_first_steps : List Step
@@ -165,26 +112,6 @@ stub-fixes : replay_report dependency_first_file stub_fixes_steps ≡ Some (line
 unfolding run run_from refusal effect shard_after shard_reply replica_after replica_reply ending_of report_text call_line stage_line statements_to_end has_ended reply_of table_at all_zero digits
 stub-fixes = refl
 
-abbrev repeats_file : Config
-repeats_file = record {
-  tries = 3;
-  max_steps = 100000;
-  drivers = 1;
-  services = record { name = codes "txn"; id = Txn 1; replicas = 0 } ∷ record { name = codes "reg"; id = Reg 1; replicas = 3 } ∷ [];
-  registers = codes "r" ∷ [];
-  register_services = Reg 1 ∷ [];
-  shards = [];
-  shard_services = [];
-  keys = [];
-  homes = [];
-  pipes = [];
-  pipe_ends = [];
-  stages = codes "a" ∷ [];
-  bodies = record { script = statement.Write (record { service = Reg 1; index = 0 }) (One (Number 5)) ∷ statement.Read 1 (record { service = Reg 1; index = 0 }) ∷ []; earliest_end = 2000 } ∷ [];
-  withholds = [];
-  kills = [];
-}
-
 abbrev repeats_steps : List Step
 repeats_steps =
     step (Act 1) 10 14 ∷ step (Go 1) 20 24 ∷ step (Again 1) 30 34 ∷ step (Go 2) 40 44 ∷ step (Again 2) 50 54 ∷
@@ -196,7 +123,7 @@ repeats_steps =
     []
 
 -- messages that come twice change nothing
-repeats : replay_report repeats_file repeats_steps ≡ Some (lines (
+repeats : replay_report write_then_read repeats_steps ≡ Some (lines (
     codes "call 1 a write r 5 ok place 1" ∷
     codes "call 2 a read r = 5 by 1 ok place 2" ∷
     codes "stage a exited" ∷
@@ -206,23 +133,9 @@ unfolding run run_from refusal effect shard_after shard_reply replica_after repl
 repeats = refl
 
 abbrev unfinished_write_that_was_read_file : Config
-unfinished_write_that_was_read_file = record {
-  tries = 3;
-  max_steps = 100000;
-  drivers = 2;
-  services = record { name = codes "txn"; id = Txn 1; replicas = 0 } ∷ record { name = codes "reg"; id = Reg 1; replicas = 3 } ∷ [];
-  registers = codes "r" ∷ [];
-  register_services = Reg 1 ∷ [];
-  shards = [];
-  shard_services = [];
-  keys = [];
-  homes = [];
-  pipes = [];
-  pipe_ends = [];
+unfinished_write_that_was_read_file = record one_register {
   stages = codes "a" ∷ codes "b" ∷ [];
-  bodies = record { script = statement.Write (record { service = Reg 1; index = 0 }) (One (Number 5)) ∷ []; earliest_end = 2000 } ∷ record { script = statement.Read 1 (record { service = Reg 1; index = 0 }) ∷ []; earliest_end = 2000 } ∷ [];
-  withholds = [];
-  kills = [];
+  bodies = body 2000 (statement.Write first_register (number 5) ∷ []) ∷ body 2000 (statement.Read 1 first_register ∷ []) ∷ [];
 }
 
 abbrev unfinished_write_that_was_read_steps : List Step
@@ -243,24 +156,11 @@ unfinished-write-that-was-read : replay_report unfinished_write_that_was_read_fi
 unfolding run run_from refusal effect shard_after shard_reply replica_after replica_reply ending_of report_text call_line stage_line statements_to_end has_ended reply_of table_at all_zero digits
 unfinished-write-that-was-read = refl
 
-abbrev five_replicas_two_lost_file : Config
-five_replicas_two_lost_file = record {
+abbrev read_of_five_file : Config
+read_of_five_file = record one_register {
   tries = 1;
-  max_steps = 100000;
-  drivers = 1;
-  services = record { name = codes "txn"; id = Txn 1; replicas = 0 } ∷ record { name = codes "reg"; id = Reg 1; replicas = 5 } ∷ [];
-  registers = codes "r" ∷ [];
-  register_services = Reg 1 ∷ [];
-  shards = [];
-  shard_services = [];
-  keys = [];
-  homes = [];
-  pipes = [];
-  pipe_ends = [];
-  stages = codes "a" ∷ [];
-  bodies = record { script = statement.Read 1 (record { service = Reg 1; index = 0 }) ∷ []; earliest_end = 2000 } ∷ [];
-  withholds = [];
-  kills = [];
+  services = two_services 5;
+  bodies = body 2000 (statement.Read 1 first_register ∷ []) ∷ [];
 }
 
 abbrev five_replicas_two_lost_steps : List Step
@@ -270,7 +170,7 @@ five_replicas_two_lost_steps =
     []
 
 -- two of five replicas can be spared
-five-replicas-two-lost : replay_report five_replicas_two_lost_file five_replicas_two_lost_steps ≡ Some (lines (
+five-replicas-two-lost : replay_report read_of_five_file five_replicas_two_lost_steps ≡ Some (lines (
     codes "call 1 a read r = 0 by 0 ok place 1" ∷
     codes "stage a exited" ∷
     codes "ending done" ∷
@@ -278,33 +178,13 @@ five-replicas-two-lost : replay_report five_replicas_two_lost_file five_replicas
 unfolding run run_from refusal effect shard_after shard_reply replica_after replica_reply ending_of report_text call_line stage_line statements_to_end has_ended reply_of table_at all_zero digits
 five-replicas-two-lost = refl
 
-abbrev five_replicas_three_lost_file : Config
-five_replicas_three_lost_file = record {
-  tries = 1;
-  max_steps = 100000;
-  drivers = 1;
-  services = record { name = codes "txn"; id = Txn 1; replicas = 0 } ∷ record { name = codes "reg"; id = Reg 1; replicas = 5 } ∷ [];
-  registers = codes "r" ∷ [];
-  register_services = Reg 1 ∷ [];
-  shards = [];
-  shard_services = [];
-  keys = [];
-  homes = [];
-  pipes = [];
-  pipe_ends = [];
-  stages = codes "a" ∷ [];
-  bodies = record { script = statement.Read 1 (record { service = Reg 1; index = 0 }) ∷ []; earliest_end = 2000 } ∷ [];
-  withholds = [];
-  kills = [];
-}
-
 abbrev five_replicas_three_lost_steps : List Step
 five_replicas_three_lost_steps =
     step (Act 1) 10 14 ∷ step (Lose 1) 20 24 ∷ step (Lose 2) 30 34 ∷ step (Lose 3) 40 44 ∷
     []
 
 -- three of five cannot
-five-replicas-three-lost : replay_report five_replicas_three_lost_file five_replicas_three_lost_steps ≡ Some (lines (
+five-replicas-three-lost : replay_report read_of_five_file five_replicas_three_lost_steps ≡ Some (lines (
     codes "call 1 a read unavailable quorum" ∷
     codes "stage a unavailable fencing" ∷
     codes "ending unfinished" ∷
@@ -312,33 +192,13 @@ five-replicas-three-lost : replay_report five_replicas_three_lost_file five_repl
 unfolding run run_from refusal effect shard_after shard_reply replica_after replica_reply ending_of report_text call_line stage_line statements_to_end has_ended reply_of table_at all_zero digits
 five-replicas-three-lost = refl
 
-abbrev read_lost_then_stub_file : Config
-read_lost_then_stub_file = record {
-  tries = 1;
-  max_steps = 100000;
-  drivers = 1;
-  services = record { name = codes "txn"; id = Txn 1; replicas = 0 } ∷ record { name = codes "reg"; id = Reg 1; replicas = 5 } ∷ [];
-  registers = codes "r" ∷ [];
-  register_services = Reg 1 ∷ [];
-  shards = [];
-  shard_services = [];
-  keys = [];
-  homes = [];
-  pipes = [];
-  pipe_ends = [];
-  stages = codes "a" ∷ [];
-  bodies = record { script = statement.Read 1 (record { service = Reg 1; index = 0 }) ∷ []; earliest_end = 2000 } ∷ [];
-  withholds = [];
-  kills = [];
-}
-
 abbrev read_lost_then_stub_steps : List Step
 read_lost_then_stub_steps =
     step (Act 1) 10 14 ∷ step (Lose 1) 20 24 ∷ step (Lose 2) 30 34 ∷ step (Lose 3) 40 44 ∷ step (Stub 1) 50 54 ∷
     []
 
 -- the stub of a stage whose quorum is lost
-read-lost-then-stub : replay_report read_lost_then_stub_file read_lost_then_stub_steps ≡ Some (lines (
+read-lost-then-stub : replay_report read_of_five_file read_lost_then_stub_steps ≡ Some (lines (
     codes "call 1 a read unavailable quorum" ∷
     codes "stage a unavailable fenced" ∷
     codes "ending hurt" ∷

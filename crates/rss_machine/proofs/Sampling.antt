@@ -1,12 +1,11 @@
--- What samples of the machine show: the reports of runs.
-use Rattle.std.specs.Prelude.{ℕ, Bool, true, false, List, [], ◌∷◌, ◌++◌, Option}
+-- What worked runs show: their reports.
+use Rattle.std.specs.Prelude.{ℕ, true, List, [], ◌∷◌, ◌++◌, Option}
 use Rattle.std.specs.Option.{option_map}
 use Rattle.pipeline_lang.specs.declared.config.Config.{Config}
 use Rattle.rss_machine.specs.Places.{places_of}
-use Rattle.rss_machine.specs.ReportText.{report_text, newline}
+use Rattle.rss_machine.specs.ReportText.{report_text, report_of, newline}
 use Rattle.rss_machine.specs.Run.{run}
 use Rattle.rss_machine.specs.Serial.{serial}
-use Rattle.rss_machine.specs.State.{State}
 use Rattle.rss_machine.specs.declared.step.Step.{Step}
 use Rattle.rss_machine.specs.declared.step.StepKind.{StepKind}
 
@@ -18,10 +17,6 @@ step kind earliest latest = record { kind = kind; at = record { earliest = earli
 abbrev pub lines : List (List ℕ) → List ℕ
 lines [] = []
 lines (text ∷ texts) = text ++ newline ++ lines texts
-
--- the report of a state with its places, where no service has counted a fence before
-abbrev pub report_of : Config → State → List ℕ
-report_of c s = report_text c s (places_of s) [] false
 
 -- the report of the run of these steps, if they are one
 abbrev pub replay_report : Config → List Step → Option (List ℕ)

@@ -1,24 +1,19 @@
 -- Samples of runs over several services, each computed.
-use Rattle.std.specs.Prelude.{◌≡◌, ℕ, Bool, true, false, List, [], ◌∷◌, ◌++◌, Option, Some, None, codes, refl}
-use Rattle.rss_names.specs.declared.service.Key.{Key}
+use Rattle.std.specs.Prelude.{◌≡◌, List, [], ◌∷◌, Some, None, codes, refl}
 use Rattle.rss_names.specs.declared.service.ServiceId.TheVariants.{Txn, Reg}
-use Rattle.rss_names.specs.declared.service.Target.TheVariants.{Shard, Replica}
 use Rattle.pipeline_lang.specs.declared.config.Config.{Config}
 use Rattle.pipeline_lang.specs.declared.script.Statement.TheVariants as statement
-use Rattle.pipeline_lang.specs.declared.script.Expr.TheVariants.{One, Plus, Minus}
+use Rattle.pipeline_lang.specs.declared.script.Expr.TheVariants.{Plus}
 use Rattle.pipeline_lang.specs.declared.script.Term.TheVariants.{Number, Variable}
-use Rattle.pipeline_lang.specs.declared.script.Compare.TheVariants.{Equal, Less}
+use Rattle.rss_machine.proofs.SampleFiles.{first_register, second_register, first_key, second_key, third_key, number, variable, body, bare, one_key, three_keys}
 use Rattle.rss_machine.specs.declared.step.Step.{Step}
-use Rattle.rss_machine.specs.declared.step.StepKind.TheVariants.{Act, Go, Lose, Again, Kill, Stub}
-use Rattle.rss_machine.specs.Sampling.{step, lines, replay_report, serial_report, serial_sum}
-use Rattle.rss_machine.specs.declared.step.StepRefusal.TheVariants as cause
-use Rattle.rss_wire.specs.declared.refusal.NetRefusal.TheVariants as net
-use Rattle.rss_machine.specs.Run.{run, run_from, first_refused, refused_from}
+use Rattle.rss_machine.specs.declared.step.StepKind.TheVariants.{Act, Go, Kill, Stub}
+use Rattle.rss_machine.proofs.Sampling.{step, lines, replay_report}
+use Rattle.rss_machine.specs.Run.{run, run_from}
 use Rattle.rss_machine.specs.Refusal.{refusal}
 use Rattle.rss_machine.specs.Effect.{effect}
 use Rattle.rss_machine.specs.Endings.{ending_of}
 use Rattle.rss_machine.specs.ReportText.{report_text, call_line, stage_line}
-use Rattle.rss_machine.specs.Serial.{serial_from}
 use Rattle.rss_tables.specs.ShardRow.{shard_after, shard_reply}
 use Rattle.rss_tables.specs.ReplicaRow.{replica_after, replica_reply}
 use Rattle.rss_model.specs.Cursor.{statements_to_end}
@@ -28,23 +23,13 @@ use Rattle.rss_model.specs.Walk.{all_zero}
 use Rattle.std.specs.Fmt.{digits}
 
 abbrev entry_file : Config
-entry_file = record {
-  tries = 3;
-  max_steps = 100000;
-  drivers = 4;
-  services = record { name = codes "txn"; id = Txn 1; replicas = 0 } ∷ record { name = codes "reg"; id = Reg 1; replicas = 3 } ∷ [];
+entry_file = record three_keys {
   registers = codes "r" ∷ [];
   register_services = Reg 1 ∷ [];
-  shards = codes "s1" ∷ codes "s2" ∷ [];
-  shard_services = Txn 1 ∷ Txn 1 ∷ [];
   keys = codes "x" ∷ codes "z" ∷ [];
   homes = 1 ∷ 2 ∷ [];
-  pipes = [];
-  pipe_ends = [];
   stages = codes "a" ∷ codes "c" ∷ codes "d" ∷ codes "e" ∷ [];
-  bodies = record { script = statement.Txn ([]) None (((record { service = Txn 1; index = 0 }), (One (Number 1))) ∷ ((record { service = Txn 1; index = 1 }), (One (Number 1))) ∷ []) ∷ []; earliest_end = 1000 } ∷ record { script = statement.Txn ((1, (record { service = Txn 1; index = 0 })) ∷ []) None (((record { service = Txn 1; index = 0 }), (Plus (Variable 1) (Number 1))) ∷ []) ∷ []; earliest_end = 0 } ∷ record { script = statement.Write (record { service = Reg 1; index = 0 }) (One (Number 7)) ∷ []; earliest_end = 2000 } ∷ record { script = statement.Read 1 (record { service = Reg 1; index = 0 }) ∷ statement.Snap ((2, (record { service = Txn 1; index = 1 })) ∷ []) ∷ []; earliest_end = 2000 } ∷ [];
-  withholds = [];
-  kills = [];
+  bodies = body 1000 (statement.Txn [] None ((first_key, number 1) ∷ (second_key, (number 1)) ∷ []) ∷ []) ∷ body 0 (statement.Txn ((1, first_key) ∷ []) None ((first_key, Plus (Variable 1) (Number 1)) ∷ []) ∷ []) ∷ body 2000 (statement.Write first_register (number 7) ∷ []) ∷ body 2000 (statement.Read 1 first_register ∷ statement.Snap ((2, second_key) ∷ []) ∷ []) ∷ [];
 }
 
 abbrev entry_steps : List Step
@@ -79,23 +64,11 @@ unfolding run run_from refusal effect shard_after shard_reply replica_after repl
 entry = refl
 
 abbrev join_file : Config
-join_file = record {
-  tries = 3;
-  max_steps = 100000;
-  drivers = 5;
-  services = record { name = codes "txn"; id = Txn 1; replicas = 0 } ∷ record { name = codes "reg"; id = Reg 1; replicas = 3 } ∷ [];
+join_file = record one_key {
   registers = codes "r" ∷ codes "q" ∷ [];
   register_services = Reg 1 ∷ Reg 1 ∷ [];
-  shards = codes "s1" ∷ [];
-  shard_services = Txn 1 ∷ [];
-  keys = codes "x" ∷ [];
-  homes = 1 ∷ [];
-  pipes = [];
-  pipe_ends = [];
   stages = codes "p" ∷ codes "c1" ∷ codes "c2" ∷ codes "w1" ∷ codes "w2" ∷ [];
-  bodies = record { script = statement.Spawn 2 ∷ statement.Spawn 3 ∷ statement.Wait 2 ∷ statement.Wait 3 ∷ statement.Snap ((1, (record { service = Txn 1; index = 0 })) ∷ []) ∷ []; earliest_end = 2000 } ∷ record { script = statement.Read 1 (record { service = Reg 1; index = 0 }) ∷ []; earliest_end = 2000 } ∷ record { script = statement.Read 1 (record { service = Reg 1; index = 1 }) ∷ []; earliest_end = 2000 } ∷ record { script = statement.Write (record { service = Reg 1; index = 0 }) (One (Number 5)) ∷ []; earliest_end = 2000 } ∷ record { script = statement.Write (record { service = Reg 1; index = 1 }) (One (Number 6)) ∷ []; earliest_end = 2000 } ∷ [];
-  withholds = [];
-  kills = [];
+  bodies = body 2000 (statement.Spawn 2 ∷ statement.Spawn 3 ∷ statement.Wait 2 ∷ statement.Wait 3 ∷ statement.Snap ((1, first_key) ∷ []) ∷ []) ∷ body 2000 (statement.Read 1 first_register ∷ []) ∷ body 2000 (statement.Read 1 second_register ∷ []) ∷ body 2000 (statement.Write first_register (number 5) ∷ []) ∷ body 2000 (statement.Write second_register (number 6) ∷ []) ∷ [];
 }
 
 abbrev join_steps : List Step
@@ -129,23 +102,9 @@ unfolding run run_from refusal effect shard_after shard_reply replica_after repl
 join = refl
 
 abbrev stub_and_entry_file : Config
-stub_and_entry_file = record {
-  tries = 3;
-  max_steps = 100000;
-  drivers = 4;
-  services = record { name = codes "txn"; id = Txn 1; replicas = 0 } ∷ record { name = codes "reg"; id = Reg 1; replicas = 3 } ∷ [];
-  registers = [];
-  register_services = [];
-  shards = codes "s1" ∷ codes "s2" ∷ [];
-  shard_services = Txn 1 ∷ Txn 1 ∷ [];
-  keys = codes "x" ∷ codes "y" ∷ codes "z" ∷ [];
-  homes = 1 ∷ 1 ∷ 2 ∷ [];
-  pipes = [];
-  pipe_ends = [];
+stub_and_entry_file = record three_keys {
   stages = codes "p" ∷ codes "c" ∷ codes "a" ∷ codes "d" ∷ [];
-  bodies = record { script = statement.Spawn 2 ∷ statement.Wait 2 ∷ statement.Snap ((1, (record { service = Txn 1; index = 2 })) ∷ []) ∷ []; earliest_end = 1000 } ∷ record { script = statement.Snap ((1, (record { service = Txn 1; index = 0 })) ∷ []) ∷ []; earliest_end = 1000 } ∷ record { script = statement.Txn ([]) None (((record { service = Txn 1; index = 0 }), (One (Number 1))) ∷ ((record { service = Txn 1; index = 2 }), (One (Number 1))) ∷ []) ∷ []; earliest_end = 1000 } ∷ record { script = statement.Txn ((1, (record { service = Txn 1; index = 0 })) ∷ []) None (((record { service = Txn 1; index = 1 }), (One (Variable 1))) ∷ []) ∷ []; earliest_end = 1000 } ∷ [];
-  withholds = [];
-  kills = [];
+  bodies = body 1000 (statement.Spawn 2 ∷ statement.Wait 2 ∷ statement.Snap ((1, third_key) ∷ []) ∷ []) ∷ body 1000 (statement.Snap ((1, first_key) ∷ []) ∷ []) ∷ body 1000 (statement.Txn [] None ((first_key, number 1) ∷ (third_key, (number 1)) ∷ []) ∷ []) ∷ body 1000 (statement.Txn ((1, first_key) ∷ []) None ((second_key, variable 1) ∷ []) ∷ []) ∷ [];
 }
 
 abbrev stub_and_entry_steps : List Step
@@ -176,23 +135,13 @@ unfolding run run_from refusal effect shard_after shard_reply replica_after repl
 stub-and-entry = refl
 
 abbrev two_transaction_services_file : Config
-two_transaction_services_file = record {
-  tries = 3;
-  max_steps = 100000;
-  drivers = 1;
+two_transaction_services_file = record three_keys {
   services = record { name = codes "txn"; id = Txn 1; replicas = 0 } ∷ record { name = codes "second"; id = Txn 2; replicas = 0 } ∷ record { name = codes "reg"; id = Reg 1; replicas = 3 } ∷ [];
-  registers = [];
-  register_services = [];
-  shards = codes "s1" ∷ codes "s2" ∷ [];
   shard_services = Txn 1 ∷ Txn 2 ∷ [];
   keys = codes "x" ∷ codes "z" ∷ [];
   homes = 1 ∷ 2 ∷ [];
-  pipes = [];
-  pipe_ends = [];
   stages = codes "a" ∷ [];
-  bodies = record { script = statement.Txn ([]) None (((record { service = Txn 1; index = 0 }), (One (Number 1))) ∷ []) ∷ statement.Txn ([]) None (((record { service = Txn 2; index = 1 }), (One (Number 2))) ∷ []) ∷ []; earliest_end = 0 } ∷ [];
-  withholds = [];
-  kills = [];
+  bodies = body 0 (statement.Txn [] None ((first_key, number 1) ∷ []) ∷ statement.Txn [] None (((record { service = Txn 2; index = 1 }), (number 2)) ∷ []) ∷ []) ∷ [];
 }
 
 abbrev two_transaction_services_steps : List Step
@@ -214,23 +163,14 @@ unfolding run run_from refusal effect shard_after shard_reply replica_after repl
 two-transaction-services = refl
 
 abbrev three_shards_two_services_file : Config
-three_shards_two_services_file = record {
-  tries = 3;
-  max_steps = 100000;
-  drivers = 4;
+three_shards_two_services_file = record bare {
   services = record { name = codes "txn"; id = Txn 1; replicas = 0 } ∷ record { name = codes "second"; id = Txn 2; replicas = 0 } ∷ record { name = codes "reg"; id = Reg 1; replicas = 3 } ∷ [];
-  registers = [];
-  register_services = [];
   shards = codes "s1" ∷ codes "s2" ∷ codes "s3" ∷ [];
   shard_services = Txn 1 ∷ Txn 1 ∷ Txn 2 ∷ [];
   keys = codes "x" ∷ codes "z" ∷ codes "y" ∷ [];
   homes = 1 ∷ 2 ∷ 3 ∷ [];
-  pipes = [];
-  pipe_ends = [];
   stages = codes "a" ∷ codes "c" ∷ codes "d" ∷ codes "e" ∷ [];
-  bodies = record { script = statement.Txn ([]) None (((record { service = Txn 1; index = 0 }), (One (Number 1))) ∷ ((record { service = Txn 1; index = 1 }), (One (Number 1))) ∷ []) ∷ []; earliest_end = 1000 } ∷ record { script = statement.Txn ((1, (record { service = Txn 1; index = 0 })) ∷ []) None (((record { service = Txn 1; index = 0 }), (Plus (Variable 1) (Number 1))) ∷ []) ∷ []; earliest_end = 0 } ∷ record { script = statement.Txn ([]) None (((record { service = Txn 2; index = 2 }), (One (Number 7))) ∷ []) ∷ []; earliest_end = 0 } ∷ record { script = statement.Snap ((1, (record { service = Txn 2; index = 2 })) ∷ []) ∷ statement.Snap ((2, (record { service = Txn 1; index = 1 })) ∷ []) ∷ []; earliest_end = 0 } ∷ [];
-  withholds = [];
-  kills = [];
+  bodies = body 1000 (statement.Txn [] None ((first_key, number 1) ∷ (second_key, (number 1)) ∷ []) ∷ []) ∷ body 0 (statement.Txn ((1, first_key) ∷ []) None ((first_key, Plus (Variable 1) (Number 1)) ∷ []) ∷ []) ∷ body 0 (statement.Txn [] None (((record { service = Txn 2; index = 2 }), (number 7)) ∷ []) ∷ []) ∷ body 0 (statement.Snap ((1, (record { service = Txn 2; index = 2 })) ∷ []) ∷ statement.Snap ((2, second_key) ∷ []) ∷ []) ∷ [];
 }
 
 abbrev three_shards_two_services_steps : List Step

@@ -1,24 +1,19 @@
 -- Samples of runs over shards, each computed.
-use Rattle.std.specs.Prelude.{◌≡◌, ℕ, Bool, true, false, List, [], ◌∷◌, ◌++◌, Option, Some, None, codes, refl}
-use Rattle.rss_names.specs.declared.service.Key.{Key}
-use Rattle.rss_names.specs.declared.service.ServiceId.TheVariants.{Txn, Reg}
-use Rattle.rss_names.specs.declared.service.Target.TheVariants.{Shard, Replica}
+use Rattle.std.specs.Prelude.{◌≡◌, List, [], ◌∷◌, Some, None, codes, refl}
 use Rattle.pipeline_lang.specs.declared.config.Config.{Config}
 use Rattle.pipeline_lang.specs.declared.script.Statement.TheVariants as statement
-use Rattle.pipeline_lang.specs.declared.script.Expr.TheVariants.{One, Plus, Minus}
+use Rattle.pipeline_lang.specs.declared.script.Expr.TheVariants.{Plus}
 use Rattle.pipeline_lang.specs.declared.script.Term.TheVariants.{Number, Variable}
-use Rattle.pipeline_lang.specs.declared.script.Compare.TheVariants.{Equal, Less}
+use Rattle.pipeline_lang.specs.declared.script.Compare.TheVariants.{Less}
+use Rattle.rss_machine.proofs.SampleFiles.{first_key, second_key, number, variable, body, one_key, three_keys}
 use Rattle.rss_machine.specs.declared.step.Step.{Step}
-use Rattle.rss_machine.specs.declared.step.StepKind.TheVariants.{Act, Go, Lose, Again, Kill, Stub}
-use Rattle.rss_machine.specs.Sampling.{step, lines, replay_report, serial_report, serial_sum}
-use Rattle.rss_machine.specs.declared.step.StepRefusal.TheVariants as cause
-use Rattle.rss_wire.specs.declared.refusal.NetRefusal.TheVariants as net
-use Rattle.rss_machine.specs.Run.{run, run_from, first_refused, refused_from}
+use Rattle.rss_machine.specs.declared.step.StepKind.TheVariants.{Act, Go}
+use Rattle.rss_machine.proofs.Sampling.{step, lines, replay_report}
+use Rattle.rss_machine.specs.Run.{run, run_from}
 use Rattle.rss_machine.specs.Refusal.{refusal}
 use Rattle.rss_machine.specs.Effect.{effect}
 use Rattle.rss_machine.specs.Endings.{ending_of}
 use Rattle.rss_machine.specs.ReportText.{report_text, call_line, stage_line}
-use Rattle.rss_machine.specs.Serial.{serial_from}
 use Rattle.rss_tables.specs.ShardRow.{shard_after, shard_reply}
 use Rattle.rss_tables.specs.ReplicaRow.{replica_after, replica_reply}
 use Rattle.rss_model.specs.Cursor.{statements_to_end}
@@ -28,23 +23,9 @@ use Rattle.rss_model.specs.Walk.{all_zero}
 use Rattle.std.specs.Fmt.{digits}
 
 abbrev completed_write_commit_undelivered_file : Config
-completed_write_commit_undelivered_file = record {
-  tries = 3;
-  max_steps = 100000;
-  drivers = 2;
-  services = record { name = codes "txn"; id = Txn 1; replicas = 0 } ∷ record { name = codes "reg"; id = Reg 1; replicas = 3 } ∷ [];
-  registers = [];
-  register_services = [];
-  shards = codes "s1" ∷ [];
-  shard_services = Txn 1 ∷ [];
-  keys = codes "x" ∷ [];
-  homes = 1 ∷ [];
-  pipes = [];
-  pipe_ends = [];
+completed_write_commit_undelivered_file = record one_key {
   stages = codes "a" ∷ codes "b" ∷ [];
-  bodies = record { script = statement.Txn ([]) None (((record { service = Txn 1; index = 0 }), (One (Number 1))) ∷ []) ∷ []; earliest_end = 20 } ∷ record { script = statement.Snap ((1, (record { service = Txn 1; index = 0 })) ∷ []) ∷ []; earliest_end = 20 } ∷ [];
-  withholds = [];
-  kills = [];
+  bodies = body 20 (statement.Txn [] None ((first_key, number 1) ∷ []) ∷ []) ∷ body 20 (statement.Snap ((1, first_key) ∷ []) ∷ []) ∷ [];
 }
 
 abbrev completed_write_commit_undelivered_steps : List Step
@@ -67,23 +48,11 @@ unfolding run run_from refusal effect shard_after shard_reply replica_after repl
 completed-write-commit-undelivered = refl
 
 abbrev wound_file : Config
-wound_file = record {
-  tries = 3;
-  max_steps = 100000;
-  drivers = 2;
-  services = record { name = codes "txn"; id = Txn 1; replicas = 0 } ∷ record { name = codes "reg"; id = Reg 1; replicas = 3 } ∷ [];
-  registers = [];
-  register_services = [];
-  shards = codes "s1" ∷ codes "s2" ∷ [];
-  shard_services = Txn 1 ∷ Txn 1 ∷ [];
+wound_file = record three_keys {
   keys = codes "x" ∷ codes "y" ∷ [];
   homes = 1 ∷ 2 ∷ [];
-  pipes = [];
-  pipe_ends = [];
   stages = codes "a" ∷ codes "b" ∷ [];
-  bodies = record { script = statement.Txn ((1, (record { service = Txn 1; index = 0 })) ∷ (2, (record { service = Txn 1; index = 1 })) ∷ []) None (((record { service = Txn 1; index = 0 }), (Plus (Variable 1) (Number 1))) ∷ ((record { service = Txn 1; index = 1 }), (Plus (Variable 2) (Number 1))) ∷ []) ∷ []; earliest_end = 0 } ∷ record { script = statement.Txn ((1, (record { service = Txn 1; index = 0 })) ∷ (2, (record { service = Txn 1; index = 1 })) ∷ []) None (((record { service = Txn 1; index = 0 }), (Plus (Variable 1) (Number 1))) ∷ ((record { service = Txn 1; index = 1 }), (Plus (Variable 2) (Number 1))) ∷ []) ∷ []; earliest_end = 0 } ∷ [];
-  withholds = [];
-  kills = [];
+  bodies = body 0 (statement.Txn ((1, first_key) ∷ (2, second_key) ∷ []) None ((first_key, Plus (Variable 1) (Number 1)) ∷ (second_key, (Plus (Variable 2) (Number 1))) ∷ []) ∷ []) ∷ body 0 (statement.Txn ((1, first_key) ∷ (2, second_key) ∷ []) None ((first_key, Plus (Variable 1) (Number 1)) ∷ (second_key, (Plus (Variable 2) (Number 1))) ∷ []) ∷ []) ∷ [];
 }
 
 abbrev wound_steps : List Step
@@ -112,23 +81,8 @@ unfolding run run_from refusal effect shard_after shard_reply replica_after repl
 wound = refl
 
 abbrev guard_fails_second_time_file : Config
-guard_fails_second_time_file = record {
-  tries = 3;
-  max_steps = 100000;
-  drivers = 1;
-  services = record { name = codes "txn"; id = Txn 1; replicas = 0 } ∷ record { name = codes "reg"; id = Reg 1; replicas = 3 } ∷ [];
-  registers = [];
-  register_services = [];
-  shards = codes "s1" ∷ [];
-  shard_services = Txn 1 ∷ [];
-  keys = codes "x" ∷ [];
-  homes = 1 ∷ [];
-  pipes = [];
-  pipe_ends = [];
-  stages = codes "a" ∷ [];
-  bodies = record { script = statement.Txn ((1, (record { service = Txn 1; index = 0 })) ∷ []) (Some (Less (One (Variable 1)) (One (Number 1)))) (((record { service = Txn 1; index = 0 }), (Plus (Variable 1) (Number 1))) ∷ []) ∷ statement.Txn ((1, (record { service = Txn 1; index = 0 })) ∷ []) (Some (Less (One (Variable 1)) (One (Number 1)))) (((record { service = Txn 1; index = 0 }), (Plus (Variable 1) (Number 1))) ∷ []) ∷ []; earliest_end = 20 } ∷ [];
-  withholds = [];
-  kills = [];
+guard_fails_second_time_file = record one_key {
+  bodies = body 20 (statement.Txn ((1, first_key) ∷ []) (Some (Less (variable 1) (number 1))) ((first_key, Plus (Variable 1) (Number 1)) ∷ []) ∷ statement.Txn ((1, first_key) ∷ []) (Some (Less (variable 1) (number 1))) ((first_key, Plus (Variable 1) (Number 1)) ∷ []) ∷ []) ∷ [];
 }
 
 abbrev guard_fails_second_time_steps : List Step
@@ -149,23 +103,9 @@ unfolding run run_from refusal effect shard_after shard_reply replica_after repl
 guard-fails-second-time = refl
 
 abbrev guard_blocked_then_fails_file : Config
-guard_blocked_then_fails_file = record {
-  tries = 3;
-  max_steps = 100000;
-  drivers = 2;
-  services = record { name = codes "txn"; id = Txn 1; replicas = 0 } ∷ record { name = codes "reg"; id = Reg 1; replicas = 3 } ∷ [];
-  registers = [];
-  register_services = [];
-  shards = codes "s1" ∷ [];
-  shard_services = Txn 1 ∷ [];
-  keys = codes "x" ∷ [];
-  homes = 1 ∷ [];
-  pipes = [];
-  pipe_ends = [];
+guard_blocked_then_fails_file = record one_key {
   stages = codes "a" ∷ codes "b" ∷ [];
-  bodies = record { script = statement.Txn ([]) None (((record { service = Txn 1; index = 0 }), (One (Number 1))) ∷ []) ∷ []; earliest_end = 20 } ∷ record { script = statement.Txn ((1, (record { service = Txn 1; index = 0 })) ∷ []) (Some (Less (One (Variable 1)) (One (Number 1)))) (((record { service = Txn 1; index = 0 }), (One (Number 9))) ∷ []) ∷ []; earliest_end = 20 } ∷ [];
-  withholds = [];
-  kills = [];
+  bodies = body 20 (statement.Txn [] None ((first_key, number 1) ∷ []) ∷ []) ∷ body 20 (statement.Txn ((1, first_key) ∷ []) (Some (Less (variable 1) (number 1))) ((first_key, number 9) ∷ []) ∷ []) ∷ [];
 }
 
 abbrev guard_blocked_then_fails_steps : List Step
