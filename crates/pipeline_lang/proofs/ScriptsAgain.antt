@@ -1,10 +1,10 @@
 -- A printed script is read again.
-use Rattle.std.proofs.Common.{◌≡◌, ℕ, zero, suc, ◌+◌, Bool, true, false, List, [], ◌∷◌, ◌++◌, Result, Ok, Err, Option, Some, None, refl, ap, ◌∙◌, arith, append_assoc}
-use Rattle.std.specs.Prelude.{codes, not}
+use Rattle.std.proofs.Common.{◌≡◌, ℕ, zero, suc, ◌+◌, ◌&&◌, Bool, true, false, List, [], ◌∷◌, ◌++◌, Result, Ok, Err, Option, Some, None, refl, ap, ◌∙◌, sym, subst, arith, append_assoc}
+use Rattle.std.specs.Prelude.{codes, not, ◌==◌}
 use Rattle.std.specs.Fmt.{decimal}
 use Rattle.std.specs.Str.{bytes_eq}
 use Rattle.std.specs.List.{list_all, slice_split, filter, onto_first}
-use Rattle.std.proofs.lemmas.Bool.{cond-true, cond-false, and_from, and_parts}
+use Rattle.std.proofs.lemmas.Bool.{cond-true, cond-false, and_from, and_parts, eqb-true}
 use Rattle.std.proofs.lemmas.Bool.Decides.{nat_tests}
 use Rattle.std.proofs.lemmas.List.Folds.{list_all-append}
 use Rattle.std.proofs.lemmas.Slice.Eq.{bytes_eq-Decides}
@@ -17,9 +17,9 @@ use Rattle.pipeline_lang.specs.declared.script.Compare.{Compare}
 use Rattle.pipeline_lang.specs.declared.script.Compare.TheVariants.{Equal, Less}
 use Rattle.pipeline_lang.specs.declared.script.Statement.TheVariants as statement
 use Rattle.pipeline_lang.specs.Tokens.{Token, tokens, is_newline, is_written, is_statement, column, place}
-use Rattle.pipeline_lang.specs.Reading.{◌>>=◌, meant, end_at}
+use Rattle.pipeline_lang.specs.Reading.{◌>>=◌, meant, begins, end_at}
 use Rattle.pipeline_lang.specs.Statements.{Raw, Pair, Written, keyword, parts_at, statement_at}
-use Rattle.pipeline_lang.specs.Scripts.{Place, open_behind, balanced, nested_at, in_line, statements_of, script_of}
+use Rattle.pipeline_lang.specs.Scripts.{Place, open_behind, balanced, is_end_too_many, inside_at, nested_at, in_line, statements_of, script_of}
 use Rattle.pipeline_lang.specs.Spelled.{IsName, IsTerm, IsExpr, IsCompare, IsPair, IsWritten, IsGuard, Each, IsStatement, Goes, AreStatements, IsScript}
 use Rattle.pipeline_lang.specs.Printing.{term_text, expr_text, compare_text, pair_text, written_text, pairs_text, more_pairs_text, writes_text, more_writes_text, guard_text, statement_text, blocks_round, blocks_behind, indent, lines_text, text_of}
 use Rattle.pipeline_lang.proofs.WordsAgain.{IsWord, name_word}
@@ -182,10 +182,41 @@ blocks_same zero m statement.End h = absurd cc
 blocks_same (suc n) m statement.End h = let e = same_some n m h in omega arith
 blocks_same n m statement.Exit h = same_some n m h
 
+inside_again : (n m : ℕ) (ts : List Token) (s : Raw) → statement_at ts ≡ Ok s → open_behind n s ≡ Some m → inside_at n ts ≡ Ok (s, m)
+unfolding inside_at
+inside_again n m ts s h e =
+    ap (λ (r : Result Raw ℕ). ◌>>=◌ {B = Raw × ℕ} r (λ q. balanced q (place ts) (open_behind n q))) h ∙ ap (balanced s (place ts)) e
+
+-- a line that `end` begins is read as `end` or not at all
+end_alone : (t : Token) (ts : List Token) (s : Raw) → t.word ≡ codes "end" → statement_at (t ∷ ts) ≡ Ok s → statement.End ≡ s
+unfolding statement_at keyword parts_at
+end_alone t ts s e h =
+    alone ts (sym (ap (λ (w : List ℕ). meant t ts (keyword w) >>= λ first. parts_at first.0 first.1 >>= λ parts. end_at parts.1 >>= λ end. Ok parts.0) e) ∙ h)
+  where
+    alone : (us : List Token) → ◌>>=◌ {B = Raw} (end_at us) (λ end. Ok statement.End) ≡ Ok s → statement.End ≡ s
+    alone [] g = cc
+    alone (u ∷ us) g = absurd cc
+
+-- what is read inside n blocks begins with no `end` too many
+none_too_many : (n m : ℕ) (ts : List Token) (s : Raw) → statement_at ts ≡ Ok s → open_behind n s ≡ Some m → is_end_too_many n ts ≡ false
+none_too_many (suc n) m ts s h e = later (suc n == 0) refl
+  where
+    later : (b : Bool) → (suc n == 0) ≡ b → (b && begins (codes "end") ts) ≡ false
+    later true d = let q : suc n ≡ 0 = eqb-true (suc n) 0 d in absurd (omega arith)
+    later false d = refl
+none_too_many zero m [] s h e = refl
+none_too_many zero m (t ∷ ts) s h e = go (bytes_eq t.word (codes "end")) refl
+  where
+    go : (b : Bool) → bytes_eq t.word (codes "end") ≡ b → is_end_too_many zero (t ∷ ts) ≡ false
+    go true d =
+        let same : statement.End ≡ s = end_alone t ts s ((bytes_eq-Decides t.word (codes "end")).0 d) h in
+        let stops : open_behind zero statement.End ≡ Some m = subst (λ (x : Raw). open_behind zero x ≡ Some m) (sym same) e in
+        absurd cc
+    go false d = d
+
 pub nested_again : (n m : ℕ) (ts : List Token) (s : Raw) → statement_at ts ≡ Ok s → open_behind n s ≡ Some m → nested_at n ts ≡ Ok (s, m)
 unfolding nested_at
-nested_again n m ts s h e =
-    ap (λ (r : Result Raw ℕ). ◌>>=◌ {B = Raw × ℕ} r (λ q. balanced q (place ts) (open_behind n q))) h ∙ ap (balanced s (place ts)) e
+nested_again n m ts s h e = cond-false (is_end_too_many n ts) (Err (place ts)) (inside_at n ts) (none_too_many n m ts s h e) ∙ inside_again n m ts s h e
 
 pub statements_more : (made n m end : ℕ) (line : List ℕ) (lines : List (List ℕ)) (s : Raw) (ss : List Raw) → nested_at n (tokens line) ≡ Ok (s, m) → statements_of (made + 1) m (column line 0) lines ≡ Ok ss → statements_of made n end (line ∷ lines) ≡ Ok (s ∷ ss)
 unfolding statements_of

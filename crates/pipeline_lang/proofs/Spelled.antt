@@ -17,7 +17,7 @@ use Rattle.pipeline_lang.specs.Tokens.{Token, tokens, place, statement_lines, co
 use Rattle.pipeline_lang.specs.Reading.{◌>>=◌, meant, token_at, word_at, begins, behind, end_at, members_at}
 use Rattle.pipeline_lang.specs.Terms.{is_digit, digits, number, number_from, name, own, term, name_at, own_at, number_at, term_at, sum_at, expr_at, comparison_at, compare_at}
 use Rattle.pipeline_lang.specs.Statements.{Raw, Pair, Written, keyword, pair_at, written_at, pairs_at, writes_at, let_at, read_at, write_at, snap_at, guard_at, reads_at, txn_at, named_at, put_at, take_at, repeat_at, when_at, parts_at, statement_at}
-use Rattle.pipeline_lang.specs.Scripts.{Place, open_behind, balanced, nested_at, in_line, closed, statements_of, script_of}
+use Rattle.pipeline_lang.specs.Scripts.{Place, open_behind, balanced, is_end_too_many, inside_at, nested_at, in_line, closed, statements_of, script_of}
 use Rattle.pipeline_lang.specs.Spelled.{IsName, IsOwn, IsTerm, IsExpr, IsCompare, IsPair, IsWritten, Each, IsGuard, IsStatement, Goes, AreStatements, IsScript}
 use Rattle.pipeline_lang.proofs.Parts.{bind_ok, ok_pair, either}
 
@@ -296,8 +296,17 @@ pub record Nested (n m : ℕ) (s : Raw) : Type 0 where
   pub is : IsStatement s
   pub behind : open_behind n s ≡ Some m
 
-nested_read : (n m : ℕ) (ts : List Token) (s : Raw) → nested_at n ts ≡ Ok (s, m) → Nested n m s
+-- what is read is no `end` too many
+pub nested_inside : (n m : ℕ) (ts : List Token) (s : Raw) → nested_at n ts ≡ Ok (s, m) → inside_at n ts ≡ Ok (s, m)
 unfolding nested_at
+nested_inside n m ts s e = go (is_end_too_many n ts) e
+  where
+    go : (b : Bool) → cond b (Err (place ts)) (inside_at n ts) ≡ Ok (s, m) → inside_at n ts ≡ Ok (s, m)
+    go true e = absurd cc
+    go false e = e
+
+nested_read : (n m : ℕ) (ts : List Token) (s : Raw) → inside_at n ts ≡ Ok (s, m) → Nested n m s
+unfolding inside_at
 nested_read n m ts s e =
     let a = bind_ok (statement_at ts) (λ (x : Raw). balanced x (place ts) (open_behind n x)) (s, m) e in
     let b = balanced_read n a.0 s (place ts) m (open_behind n a.0) refl a.2 in
@@ -329,7 +338,7 @@ statements_read made n end [] ss e = closed_read made n end ss e
 statements_read made n end (line ∷ lines) ss e =
     let a = bind_ok (in_line (made + 1) line (nested_at n (tokens line))) _ ss e in
     let b = bind_ok (statements_of (made + 1) a.0.1 (column line 0) lines) (λ (more : List Raw). Ok (a.0.0 ∷ more)) ss a.2 in
-    let h = nested_read n a.0.1 (tokens line) a.0.0 (in_line_read (made + 1) a.0.1 line a.0.0 (nested_at n (tokens line)) a.1) in
+    let h = nested_read n a.0.1 (tokens line) a.0.0 (nested_inside n a.0.1 (tokens line) a.0.0 (in_line_read (made + 1) a.0.1 line a.0.0 (nested_at n (tokens line)) a.1)) in
     let more = statements_read (made + 1) a.0.1 (column line 0) lines b.0 b.1 in
     subst (λ (l : List Raw). AreStatements l n) (scripts_same (a.0.0 ∷ b.0) ss b.2) (h.is, goes_on b.0 a.0.1 (open_behind n a.0.0) h.behind more)
 

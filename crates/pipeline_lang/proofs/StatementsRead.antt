@@ -14,10 +14,10 @@ use Rattle.pipeline_lang.specs.Tokens.{Token, tokens, place, statement_lines, co
 use Rattle.pipeline_lang.specs.Reading.{◌>>=◌, token_at, word_at, begins, behind, end_at, members_at}
 use Rattle.pipeline_lang.specs.Terms.{name_at, own_at, number_at, expr_at, compare_at}
 use Rattle.pipeline_lang.specs.Statements.{Raw, Pair, Written, keyword, pair_at, written_at, pairs_at, writes_at, let_at, read_at, write_at, snap_at, guard_at, reads_at, txn_at, named_at, put_at, take_at, repeat_at, when_at, parts_at, statement_at}
-use Rattle.pipeline_lang.specs.Scripts.{open_behind, balanced, nested_at, in_line, closed, statements_of, script_of}
+use Rattle.pipeline_lang.specs.Scripts.{open_behind, balanced, inside_at, nested_at, in_line, closed, statements_of, script_of}
 use Rattle.pipeline_lang.specs.Grammar.{expr_words, compare_words, pair_words, written_words, more_words, list_words, guard_words, statement_words, words, LinesSpell}
 use Rattle.pipeline_lang.proofs.Parts.{bind_ok, ok_pair}
-use Rattle.pipeline_lang.proofs.Spelled.{some_same, in_line_read, scripts_same}
+use Rattle.pipeline_lang.proofs.Spelled.{some_same, nested_inside, in_line_read, scripts_same}
 use Rattle.pipeline_lang.proofs.TermsRead.{made_of, either_of, token_words, name_words, own_words, number_words, word_words, begins_words, read_expr_words, compare_read_words, joined}
 
 -- a variable and a name
@@ -237,8 +237,8 @@ balanced_same : (x s : Raw) (first m : ℕ) (o : Option ℕ) → balanced x firs
 balanced_same x s first m (Some k) e = (ok_pair {A = Raw} {B = ℕ} x s k m e).0
 balanced_same x s first m None e = absurd cc
 
-nested_read_words : (n m : ℕ) (ts : List Token) (s : Raw) → nested_at n ts ≡ Ok (s, m) → words ts ≡ statement_words s
-unfolding nested_at
+nested_read_words : (n m : ℕ) (ts : List Token) (s : Raw) → inside_at n ts ≡ Ok (s, m) → words ts ≡ statement_words s
+unfolding inside_at
 nested_read_words n m ts s e =
     let a = bind_ok (statement_at ts) (λ (x : Raw). balanced x (place ts) (open_behind n x)) (s, m) e in
     statement_read_words ts a.0 a.1 ∙ ap statement_words (balanced_same a.0 s (place ts) m (open_behind n a.0) a.2)
@@ -254,7 +254,7 @@ statements_read_words made n end [] ss e = closed_words made n end ss e
 statements_read_words made n end (line ∷ lines) ss e =
     let a = bind_ok (in_line (made + 1) line (nested_at n (tokens line))) _ ss e in
     let b = bind_ok (statements_of (made + 1) a.0.1 (column line 0) lines) (λ (more : List Raw). Ok (a.0.0 ∷ more)) ss a.2 in
-    let h = nested_read_words n a.0.1 (tokens line) a.0.0 (in_line_read (made + 1) a.0.1 line a.0.0 (nested_at n (tokens line)) a.1) in
+    let h = nested_read_words n a.0.1 (tokens line) a.0.0 (nested_inside n a.0.1 (tokens line) a.0.0 (in_line_read (made + 1) a.0.1 line a.0.0 (nested_at n (tokens line)) a.1)) in
     let more = statements_read_words (made + 1) a.0.1 (column line 0) lines b.0 b.1 in
     subst (λ (l : List Raw). LinesSpell (line ∷ lines) l) (scripts_same (a.0.0 ∷ b.0) ss b.2) (h, more)
 

@@ -1,5 +1,5 @@
 -- The script that a text spells, or the first place where no script goes on.
-use Rattle.std.specs.Prelude.{◌≡◌, ℕ, zero, suc, ◌+◌, List, [], ◌∷◌, Result, Ok, Err, Option, Some, None}
+use Rattle.std.specs.Prelude.{◌≡◌, ℕ, zero, suc, ◌+◌, ◌==◌, ◌&&◌, Bool, cond, codes, List, [], ◌∷◌, Result, Ok, Err, Option, Some, None}
 use Rattle.pipeline_lang.specs.declared.script.Statement.TheVariants as statement
 use Rattle.pipeline_lang.specs.declared.error.ParseError.{ParseError}
 use Rattle.pipeline_lang.specs.declared.error.ParseError.TheVariants.{Syntax, OutOfMemory}
@@ -7,7 +7,7 @@ use Rattle.pipeline_lang.specs.declared.stop.Stop.{Stop}
 use Rattle.pipeline_lang.specs.declared.stop.Stop.TheVariants as stop
 use Rattle.pipeline_lang.specs.declared.stop.Stop.TheVariants.{Misfit}
 use Rattle.pipeline_lang.specs.Tokens.{Token, tokens, place, statement_lines, column}
-use Rattle.pipeline_lang.specs.Reading.{◌>>=◌}
+use Rattle.pipeline_lang.specs.Reading.{◌>>=◌, begins}
 use Rattle.pipeline_lang.specs.Statements.{Raw, statement_at}
 
 -- a place in a script: the number of the statement and the column in its line, each counted from 1
@@ -23,16 +23,24 @@ open_behind zero statement.End = None
 open_behind (suc n) statement.End = Some n
 open_behind n other = Some n
 
--- the statement and how many blocks are open behind it; an `end` too many cannot stand where the line begins
+-- whether an `end` begins a line that no block is open round
+abbrev pub is_end_too_many : ℕ → List Token → Bool
+is_end_too_many n ts = n == 0 && begins (codes "end") ts
+
+-- the statement and how many blocks are open behind it
 abbrev pub balanced : Raw → ℕ → Option ℕ → Result (Raw × ℕ) ℕ
 balanced s first (Some n) = Ok (s, n)
 balanced s first None = Err first
 
 -- the statement of these tokens inside n blocks, and how many are open behind it
-unfoldable pub nested_at : ℕ → List Token → Result (Raw × ℕ) ℕ
-nested_at n ts = do
+unfoldable pub inside_at : ℕ → List Token → Result (Raw × ℕ) ℕ
+inside_at n ts = do
   s ← statement_at ts
   balanced s (place ts) (open_behind n s)
+
+-- the same, where an `end` too many cannot stand, whatever stands behind it
+unfoldable pub nested_at : ℕ → List Token → Result (Raw × ℕ) ℕ
+nested_at n ts = cond (is_end_too_many n ts) (Err (place ts)) (inside_at n ts)
 
 -- what is read in the line of a statement, with the place in the script where it cannot be read
 abbrev pub in_line : {A : Type 0} → ℕ → List ℕ → Result A ℕ → Result A Place

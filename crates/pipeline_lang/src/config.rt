@@ -6,7 +6,6 @@ use rss_names::{Name, Seq, ServiceId, ShardId, StageId, Target};
 
 /// What a valid pipeline file says. Every list stands in file order; `services` in the order of
 /// services.
-#[derive(Drop)]
 pub struct Config {
     /// The number of lost messages, 1 to 8, at which an owner gives a target up.
     pub tries: u8,
@@ -35,6 +34,30 @@ pub struct Config {
     pub kills: Seq<KillAt>,
 }
 
+// Written out, so that who lets a configuration go sees one call and none of its parts.
+impl Drop for Config {
+    fn drop(self) {
+        let Config {
+            tries: _tries,
+            max_steps: _max_steps,
+            drivers: _drivers,
+            services: _services,
+            registers: _registers,
+            register_services: _register_services,
+            shards: _shards,
+            shard_services: _shard_services,
+            keys: _keys,
+            homes: _homes,
+            pipes: _pipes,
+            pipe_ends: _pipe_ends,
+            stages: _stages,
+            bodies: _bodies,
+            withholds: _withholds,
+            kills: _kills,
+        } = self;
+    }
+}
+
 /// A service: its name, and the number of its replicas, which is 3, 5 or 7, or 0 for a service of
 /// transactions.
 #[derive(Clone, Copy, PartialEq, Eq)]
@@ -54,10 +77,19 @@ pub struct PipeEnds {
 
 /// What a stage runs. `earliest_end`, at most 1,000,000 microseconds, is how far ahead a
 /// transaction may end at the earliest.
-#[derive(Drop)]
 pub struct Body {
     pub script: Script,
     pub earliest_end: u32,
+}
+
+// Written out, so that who lets a body go sees one call and none of its parts.
+impl Drop for Body {
+    fn drop(self) {
+        let Body {
+            script: _script,
+            earliest_end: _earliest_end,
+        } = self;
+    }
 }
 
 /// The requests of a stage to a target that are lost by order of the file: `count` of them, from

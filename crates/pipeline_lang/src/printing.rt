@@ -80,20 +80,38 @@ fn put_pair(text: &mut Vec<u8>, pair: &(Name, Name)) -> Result<(), AllocError>
     text.extend_from_slice(pair.1.bytes())
 }
 
+/// Adds a pair that stands behind another.
+fn put_next_pair(text: &mut Vec<u8>, pair: &(Name, Name)) -> Result<(), AllocError>
+    ensures { OnOk result (text.new.items ≡ text.old.items ++ (codes ", " ++ pair_text pair.now)) }
+{
+    text.extend_from_slice(b", ")?;
+    put_pair(text, pair)
+}
+
+/// Adds what stands behind the first pair of a transaction.
+#[tactic(auto, unfolding(crate::specs::Printing::more_pairs_text))]
+fn put_more_pairs(text: &mut Vec<u8>, pairs: &[(Name, Name)]) -> Result<(), AllocError>
+    ensures { OnOk result (text.new.items ≡ text.old.items ++ more_pairs_text pairs.now) }
+{
+    for pair in pairs {
+        put_next_pair(text, pair)?;
+    }
+    Ok(())
+}
+
 /// Adds pairs of a transaction, each behind a space, with `,` between.
-#[tactic(auto, unfolding(crate::specs::Printing::pairs_text, crate::specs::Printing::more_pairs_text))]
+#[tactic(auto, unfolding(crate::specs::Printing::pairs_text))]
 fn put_pairs(text: &mut Vec<u8>, pairs: &[(Name, Name)]) -> Result<(), AllocError>
     ensures { OnOk result (text.new.items ≡ text.old.items ++ pairs_text pairs.now) }
 {
-    if let Some((first, more)) = pairs.split_first() {
-        text.extend_from_slice(b" ")?;
-        put_pair(text, first)?;
-        for pair in more {
-            text.extend_from_slice(b", ")?;
-            put_pair(text, pair)?;
+    match pairs.split_first() {
+        Some((first, more)) => {
+            text.extend_from_slice(b" ")?;
+            put_pair(text, first)?;
+            put_more_pairs(text, more)
         }
+        None => Ok(()),
     }
-    Ok(())
 }
 
 /// Adds a write of a transaction.
@@ -110,8 +128,35 @@ fn put_written(
     put_expr(alloc, text, &written.1)
 }
 
+/// Adds a write that stands behind another.
+fn put_next_written(
+    alloc: Global,
+    text: &mut Vec<u8>,
+    written: &(Name, Expr<Name>),
+) -> Result<(), AllocError>
+    ensures { OnOk result (text.new.items ≡ text.old.items ++ (codes ", " ++ written_text written.now)) }
+{
+    text.extend_from_slice(b", ")?;
+    put_written(alloc, text, written)
+}
+
+/// Adds what stands behind the first write of a transaction.
+#[tactic(auto, unfolding(crate::specs::Printing::more_writes_text))]
+fn put_more_writes(
+    alloc: Global,
+    text: &mut Vec<u8>,
+    writes: &[(Name, Expr<Name>)],
+) -> Result<(), AllocError>
+    ensures { OnOk result (text.new.items ≡ text.old.items ++ more_writes_text writes.now) }
+{
+    for written in writes {
+        put_next_written(alloc, text, written)?;
+    }
+    Ok(())
+}
+
 /// Adds writes of a transaction, each behind a space, with `,` between.
-#[tactic(auto, unfolding(crate::specs::Printing::writes_text, crate::specs::Printing::more_writes_text))]
+#[tactic(auto, unfolding(crate::specs::Printing::writes_text))]
 fn put_writes(
     alloc: Global,
     text: &mut Vec<u8>,
@@ -119,15 +164,14 @@ fn put_writes(
 ) -> Result<(), AllocError>
     ensures { OnOk result (text.new.items ≡ text.old.items ++ writes_text writes.now) }
 {
-    if let Some((first, more)) = writes.split_first() {
-        text.extend_from_slice(b" ")?;
-        put_written(alloc, text, first)?;
-        for written in more {
-            text.extend_from_slice(b", ")?;
-            put_written(alloc, text, written)?;
+    match writes.split_first() {
+        Some((first, more)) => {
+            text.extend_from_slice(b" ")?;
+            put_written(alloc, text, first)?;
+            put_more_writes(alloc, text, more)
         }
+        None => Ok(()),
     }
-    Ok(())
 }
 
 /// Adds the guard of a `txn`.
@@ -183,6 +227,30 @@ fn put_one(text: &mut Vec<u8>, word: &[u8], name: &Name) -> Result<(), AllocErro
     text.extend_from_slice(name.bytes())
 }
 
+/// Adds a `snap`.
+fn put_snap(text: &mut Vec<u8>, pairs: &[(Name, Name)]) -> Result<(), AllocError>
+    ensures { OnOk result (text.new.items ≡ text.old.items ++ (codes "snap" ++ pairs_text pairs.now)) }
+{
+    text.extend_from_slice(b"snap")?;
+    put_pairs(text, pairs)
+}
+
+/// Adds a `repeat`.
+fn put_repeat(alloc: Global, text: &mut Vec<u8>, count: u64) -> Result<(), AllocError>
+    ensures { OnOk result (text.new.items ≡ text.old.items ++ (codes "repeat " ++ decimal count)) }
+{
+    text.extend_from_slice(b"repeat ")?;
+    put_number(alloc, text, count)
+}
+
+/// Adds a `when`.
+fn put_when(alloc: Global, text: &mut Vec<u8>, test: &Compare<Name>) -> Result<(), AllocError>
+    ensures { OnOk result (text.new.items ≡ text.old.items ++ (codes "when " ++ compare_text test.now)) }
+{
+    text.extend_from_slice(b"when ")?;
+    put_compare(alloc, text, test)
+}
+
 /// Adds a `txn`.
 fn put_txn(
     alloc: Global,
@@ -217,10 +285,7 @@ fn put_statement(
         Statement::Write(register, value) => put_assigned(
             alloc, text, b"write ", register, b" ", value,
         ),
-        Statement::Snap(pairs) => {
-            text.extend_from_slice(b"snap")?;
-            put_pairs(text, pairs.as_slice())
-        }
+        Statement::Snap(pairs) => put_snap(text, pairs.as_slice()),
         Statement::Txn(pairs, guard, writes) => put_txn(
             alloc,
             text,
@@ -234,14 +299,8 @@ fn put_statement(
         Statement::Take(variable, pipe) => put_two(text, b"take ", variable, pipe),
         Statement::Close(pipe) => put_one(text, b"close ", pipe),
         Statement::Fence => text.extend_from_slice(b"fence"),
-        Statement::Repeat(count) => {
-            text.extend_from_slice(b"repeat ")?;
-            put_number(alloc, text, *count)
-        }
-        Statement::When(test) => {
-            text.extend_from_slice(b"when ")?;
-            put_compare(alloc, text, test)
-        }
+        Statement::Repeat(count) => put_repeat(alloc, text, *count),
+        Statement::When(test) => put_when(alloc, text, test),
         Statement::End => text.extend_from_slice(b"end"),
         Statement::Exit => text.extend_from_slice(b"exit"),
     }

@@ -5,7 +5,7 @@ ghost use Rattle.pipeline_lang.specs.Tokens.{tokens as tokens_of};
 ghost use Rattle.pipeline_lang.specs.Reading.{Gives};
 ghost use Rattle.pipeline_lang.specs.Statements.{Raw};
 ghost use Rattle.pipeline_lang.specs.Grammar.{Spells};
-ghost use Rattle.pipeline_lang.specs.Scripts.{open_behind as open_by, refusal as refusal_by, nested_at, script_of, Parses};
+ghost use Rattle.pipeline_lang.specs.Scripts.{open_behind as open_by, refusal as refusal_by, is_end_too_many as end_too_many, inside_at, nested_at, script_of, Parses};
 
 use crate::error::ParseError;
 use crate::lines::{column, is_statement, split_line};
@@ -32,10 +32,10 @@ fn open_behind(depth: usize, statement: &RawStatement) -> Option<usize>
 }
 
 /// Reads the statement of a line inside so many blocks, and counts how many are open behind it.
-#[tactic(auto, unfolding(crate::specs::Scripts::nested_at))]
-fn read_nested(alloc: Global, depth: usize, line: &[u8]) -> Result<(RawStatement, usize), Stop>
+#[tactic(auto, unfolding(crate::specs::Scripts::inside_at))]
+fn read_inside(alloc: Global, depth: usize, line: &[u8]) -> Result<(RawStatement, usize), Stop>
     requires { depth < 2 ^ 63 }
-    ensures read { Gives result (nested_at depth (tokens_of line.now)) }
+    ensures read { Gives result (inside_at depth (tokens_of line.now)) }
     ensures most { IfOk result (λ r. r.1 ≤ depth + 1) }
 {
     let first = Line::new(line).place();
@@ -47,6 +47,26 @@ fn read_nested(alloc: Global, depth: usize, line: &[u8]) -> Result<(RawStatement
         Some(behind) => Ok((statement, behind)),
         None => Err(Stop::Misfit(first)),
     }
+}
+
+/// Whether an `end` begins a line that no block is open round.
+fn is_end_too_many(depth: usize, line: &[u8]) -> bool
+    ensures { result ≡ end_too_many depth (tokens_of line.now) }
+{
+    depth == 0 && Line::new(line).begins(b"end")
+}
+
+/// The same, where an `end` too many is refused before anything behind it is read.
+#[tactic(auto, unfolding(crate::specs::Scripts::nested_at))]
+fn read_nested(alloc: Global, depth: usize, line: &[u8]) -> Result<(RawStatement, usize), Stop>
+    requires { depth < 2 ^ 63 }
+    ensures read { Gives result (nested_at depth (tokens_of line.now)) }
+    ensures most { IfOk result (λ r. r.1 ≤ depth + 1) }
+{
+    if is_end_too_many(depth, line) {
+        return Err(Stop::Misfit(Line::new(line).place()));
+    }
+    read_inside(alloc, depth, line)
 }
 
 /// The answer where the reading of a statement stops.
@@ -98,7 +118,8 @@ fn read_script(alloc: Global, text: &[u8]) -> Result<RawScript, ParseError>
 
 /// The script that a text spells, with one statement on a line: a carriage return and a tab count
 /// as a space, and empty lines and lines that begin with `#` are no statements. Any other text is a
-/// `Syntax` at the first token that cannot stand.
+/// `Syntax` at the first token that cannot stand: an `end` where no block is open cannot, whatever
+/// stands behind it.
 pub fn parse(alloc: Global, text: &[u8]) -> Result<RawScript, ParseError>
     ensures read { Parses result (script_of text.now) }
     ensures spelled { IfOk result (λ script. Spells text.now script) }

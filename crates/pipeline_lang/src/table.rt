@@ -13,9 +13,15 @@ use std::marker::Model;
 
 /// A table from names to positions, in file order. Contracts see the list of its names, of which
 /// no two are equal and which are fewer than 65,536.
-#[derive(Drop)]
 pub struct NameTable {
     names: IndexSet<Name>,
+}
+
+// Written out, so that who lets a table go sees one call and none of its parts.
+impl Drop for NameTable {
+    fn drop(self) {
+        let NameTable { names: _names } = self;
+    }
 }
 
 impl Model for NameTable {

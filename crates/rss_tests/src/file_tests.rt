@@ -78,6 +78,14 @@ fn faults_of_scripts_are_named(rt: HostRuntime) -> Result<(), Fail> {
             "# a note\n\n  when 1 < 2\n",
             "Syntax stage.1.script statement 1 column 13",
         ),
+        (
+            "let v = 1\n  end x\n",
+            "Syntax stage.1.script statement 2 column 3",
+        ),
+        (
+            "when 1 < 2\nend x\n",
+            "Syntax stage.1.script statement 2 column 5",
+        ),
     ];
     for (script, fault) in rows {
         let file = with_script(alloc, script)?;
