@@ -17,4 +17,15 @@ pub mod Fits
 pub mod Released
 pub mod Commits
 pub mod Releases
+pub mod Newest
+pub mod Found
+pub mod Orderly
+pub mod Stays
+pub mod Wrote
+pub mod Applies
+pub mod ReleasesClose
+pub mod Order
+pub mod Fresh
+pub mod Prepares
+pub mod Holders
 pub mod Samples

@@ -8,4 +8,7 @@ pub mod Closed
 pub mod Snapshots
 pub mod Fitting
 pub mod Committed
+pub mod Orderly
+pub mod Applied
+pub mod Named
 pub mod Sample

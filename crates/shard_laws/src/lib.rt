@@ -1,13 +1,23 @@
-//! Theory: what one shard of a transaction service keeps, whatever requests it serves in whatever order.
+//! Theory: what one shard of a transaction service keeps, whatever requests it serves in whatever order, and
+//! what it shows and closes, request by request.
 #![tactic(auto)]
 
+mod answers;
+mod applying;
+mod closing;
 mod decisions;
 mod fitting;
 mod locks;
 mod prepared;
+mod shown;
 mod times;
 mod versions;
 
+pub use answers::{
+    answers_are_fresh, answers_close_what_they_show_for_keys, answers_name_the_prepared,
+};
+pub use applying::{commits_apply, releases_close_what_was_shown};
+pub use closing::{closed_times_are_in_order, closed_versions_stay, shards_stay_orderly};
 pub use decisions::{decisions_are_asked_for, decisions_stay};
 pub use fitting::{
     commits_write_what_was_prepared, keys_stay, locked_versions_stay, prepared_replies_are_true,
@@ -23,6 +33,10 @@ pub use locks::{
 pub use prepared::{
     attempts_are_prepared_once, entries_stay_until_settled, prepare_times_are_new,
     prepared_attempts_have_one_entry, prepared_attempts_hold,
+};
+pub use shown::{
+    granted_attempts_hold_what_they_are_shown, prepared_attempts_stay_until_settled,
+    shown_versions_stay,
 };
 pub use times::{
     answered_snapshots_raise_the_floor, later_prepare_times_are_above_the_floor,

@@ -9,4 +9,12 @@ pub mod Asked
 pub mod CalmKeeps
 pub mod TurnsJust
 pub mod JustKeeps
-pub mod Starts
+pub mod DecisionStarts
+pub mod DateSessions
+pub mod DateTurns
+pub mod DateOwners
+pub mod DateVotes
+pub mod DateKeeps
+pub mod DateStarts
+pub mod Entering
+pub mod Entered

@@ -1,2 +1,4 @@
 pub mod Calm
-pub mod Laws
+pub mod DecisionLaws
+pub mod Entered
+pub mod DateLaws

@@ -21,13 +21,13 @@ use Rattle.shard_laws.specs.Entries.{holder_of}
 use Rattle.shard_laws.specs.Locked.{IsGone, HoldsFor, AreExcluded}
 use Rattle.shard_laws.proofs.Entries.{same_is}
 use Rattle.shard_laws.proofs.Laters.{exclude, prepared_hold_for}
-use Rattle.shard_time_laws.specs.Applied.{IsApplied}
-use Rattle.shard_time_laws.specs.Orderly.{IsOrderly, HoldsShown}
-use Rattle.shard_time_laws.proofs.Found.{prepared_attempt, prepared_itself, found_attempt, found_itself, read_locked}
+use Rattle.shard_laws.specs.Applied.{IsApplied}
+use Rattle.shard_laws.specs.Orderly.{IsOrderly, HoldsShown}
+use Rattle.shard_laws.proofs.Found.{prepared_attempt, prepared_itself, found_attempt, found_itself, read_locked}
 use Rattle.session_laws.specs.Frames.{nth_line}
 use Rattle.session_laws.proofs.Shown.{newest_in_there}
 use Rattle.txn_state_laws.proofs.Commits.{commits_granted}
-use Rattle.txn_order_laws.proofs.InOrder.{no_entry}
+use Rattle.txn_shard_laws.proofs.InOrder.{no_entry}
 use Rattle.txn_line_laws.proofs.Facts.{Facts, CommitKnown}
 use Rattle.txn_line_laws.proofs.Readers.{Seen, shown_to}
 use Rattle.txn_line_laws.proofs.Sees.{Sees, sees_closed, sees_below, sees_newest}

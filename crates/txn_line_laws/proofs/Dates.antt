@@ -24,7 +24,7 @@ use Rattle.txn_state_laws.specs.Dated.{begun_moment}
 use Rattle.txn_state_laws.specs.Decided.{CommitsAt}
 use Rattle.txn_state_laws.specs.Told.{freeing_time, snap_time}
 use Rattle.fence_laws.proofs.StepsOf.{step_after, step_by}
-use Rattle.txn_order_laws.proofs.InOrder.{voted_of}
+use Rattle.txn_shard_laws.proofs.InOrder.{voted_of}
 use Rattle.txn_line_laws.specs.Line.{PlacedTxn, commits, fails, reads, TxnWrites, writer_key, TxnsInside, TxnsEnter, TxnsCovered, TxnsFresh}
 use Rattle.txn_line_laws.proofs.Facts.{Facts, CommitKnown, commit_known}
 use Rattle.txn_line_laws.proofs.Keys.{earlier_key, writer_first, reader_first}

@@ -33,7 +33,7 @@ use Rattle.txn_state_laws.specs.Fresh.{AllFresh}
 use Rattle.txn_state_laws.specs.Orderly.{AllOrderly}
 use Rattle.txn_state_laws.specs.Told.{AllTold}
 use Rattle.txn_state_laws.specs.Voted.{AllVoted}
-use Rattle.txn_date_laws.specs.Entered.{AllEntered}
+use Rattle.txn_decision_laws.specs.Entered.{AllEntered}
 use Rattle.fence_laws.specs.Laws.{MomentsRise}
 use Rattle.txn_state_laws.proofs.Grows.{one_txn, present_is, coordinator_first, txn_is}
 use Rattle.txn_line_laws.proofs.Commits.{once_reached, IsDecision, commit_found, commit_there}

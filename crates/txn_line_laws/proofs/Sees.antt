@@ -11,8 +11,8 @@ use Rattle.shard_laws.specs.Closed.{EachOf, writes_key}
 use Rattle.shard_laws.specs.Served.{IsReached}
 use Rattle.shard_laws.specs.Snapshots.{ClosesAt}
 use Rattle.shard_laws.proofs.Closes.{rising}
-use Rattle.shard_time_laws.proofs.Newest.{newest_shows, shows_earlier}
-use Rattle.shard_time_laws.proofs.Order.{closed_before, closed_writers, closed_version, closed_upto}
+use Rattle.shard_laws.proofs.Newest.{newest_shows, shows_earlier}
+use Rattle.shard_laws.proofs.Order.{closed_before, closed_writers, closed_version, closed_upto}
 use Rattle.txn_line_laws.proofs.Stands.{Stands, stands_prepared, stands_applied}
 
 -- a reader at a time was shown a version of a key: the key is closed at its time and shows it; or its own version stands at its

@@ -15,16 +15,16 @@ use Rattle.rss_machine.specs.declared.session.Session.TheVariants as session
 use Rattle.shard_laws.specs.Closed.{writes_key}
 use Rattle.shard_laws.specs.Committed.{written_value, keeps_key}
 use Rattle.shard_laws.specs.Snapshots.{ClosesAt}
-use Rattle.shard_time_laws.specs.Applied.{IsApplied}
-use Rattle.shard_time_laws.proofs.Found.{prepared_attempt, prepared_itself}
-use Rattle.shard_time_laws.proofs.Wrote.{some_value}
+use Rattle.shard_laws.specs.Applied.{IsApplied}
+use Rattle.shard_laws.proofs.Found.{prepared_attempt, prepared_itself}
+use Rattle.shard_laws.proofs.Wrote.{some_value}
 use Rattle.session_laws.specs.Frames.{nth_line}
 use Rattle.session_laws.proofs.Shown.{computed_on, greatest_prepared_above}
 use Rattle.txn_state_laws.specs.Framed.{IsLineOf}
 use Rattle.txn_state_laws.specs.Justified.{PreparesNow}
 use Rattle.txn_state_laws.specs.Voted.{VoteIs, prepared, aborted, applied}
 use Rattle.txn_state_laws.proofs.Grows.{one_txn, one_line, kept_one}
-use Rattle.txn_order_laws.proofs.InOrder.{voted_of}
+use Rattle.txn_shard_laws.proofs.InOrder.{voted_of}
 use Rattle.txn_line_laws.specs.Line.{TxnWrites}
 use Rattle.txn_line_laws.proofs.Facts.{Facts, HomeLine, CommitKnown, commit_known, present, txn_writes, writes_of}
 

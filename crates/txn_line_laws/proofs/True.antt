@@ -28,31 +28,31 @@ use Rattle.txn_state_laws.specs.Orderly.{AllOrderly, AllInOrder}
 use Rattle.txn_state_laws.specs.Passed.{AllPassed}
 use Rattle.txn_state_laws.specs.Told.{AllTold}
 use Rattle.txn_state_laws.specs.Voted.{AllVoted}
-use Rattle.txn_frame_laws.specs.Standing.{UnderWay, is_led, TxnLed, AllLed}
-use Rattle.txn_frame_laws.proofs.UnderWay.{under_way_keeps, under_way_start, under_way_ticks, under_way_hears}
-use Rattle.txn_onward_laws.specs.Alone.{is_alone, IsAlone, AllAlone}
-use Rattle.txn_onward_laws.specs.Undone.{NeverUndone}
-use Rattle.txn_onward_laws.proofs.Goes.{onward}
-use Rattle.txn_onward_laws.proofs.Never.{no}
-use Rattle.txn_onward_laws.proofs.Tells.{told_keeps, told_start, told_ticks}
+use Rattle.txn_session_laws.specs.Standing.{UnderWay, is_led, TxnLed, AllLed}
+use Rattle.txn_session_laws.proofs.UnderWay.{under_way_keeps, under_way_start, under_way_ticks, under_way_hears}
+use Rattle.txn_session_laws.specs.Alone.{is_alone, IsAlone, AllAlone}
+use Rattle.txn_session_laws.specs.Undone.{NeverUndone}
+use Rattle.txn_session_laws.proofs.Goes.{onward}
+use Rattle.txn_session_laws.proofs.Never.{no}
+use Rattle.txn_session_laws.proofs.Tells.{told_keeps, told_start, told_ticks}
 use Rattle.txn_decision_laws.specs.Calm.{AllCalm}
 use Rattle.txn_decision_laws.proofs.CalmKeeps.{calm_keeps}
 use Rattle.txn_decision_laws.proofs.DecidedKeeps.{decided_keeps}
 use Rattle.txn_decision_laws.proofs.Heard.{never_undone}
 use Rattle.txn_decision_laws.proofs.JustKeeps.{just_keeps}
-use Rattle.txn_decision_laws.proofs.Starts.{calm_start, calm_ticks, just_start, just_ticks, decided_start, decided_ticks}
-use Rattle.txn_order_laws.proofs.InOrder.{in_order}
-use Rattle.txn_order_laws.proofs.Keeps.{orderly_keeps}
-use Rattle.txn_order_laws.proofs.Starts.{orderly_start, orderly_ticks}
-use Rattle.txn_vote_laws.proofs.Keeps.{voted_keeps, voted_start, voted_ticks}
-use Rattle.txn_close_laws.specs.Unreleased.{AllClosing}
-use Rattle.txn_close_laws.proofs.Closed.{closing_keeps}
-use Rattle.txn_close_laws.proofs.Starts.{closing_start, closing_ticks}
-use Rattle.txn_pass_laws.proofs.Keeps.{passed_keeps, passed_start, passed_ticks}
-use Rattle.txn_date_laws.proofs.Entered.{entered_run}
-use Rattle.txn_date_laws.proofs.Keeps.{dated_keeps}
-use Rattle.txn_date_laws.proofs.Starts.{dated_start, dated_ticks}
-use Rattle.txn_fresh_laws.proofs.Keeps.{fresh_keeps, fresh_start, fresh_ticks}
+use Rattle.txn_decision_laws.proofs.DecisionStarts.{calm_start, calm_ticks, just_start, just_ticks, decided_start, decided_ticks}
+use Rattle.txn_shard_laws.proofs.InOrder.{in_order}
+use Rattle.txn_shard_laws.proofs.OrderKeeps.{orderly_keeps}
+use Rattle.txn_shard_laws.proofs.OrderStarts.{orderly_start, orderly_ticks}
+use Rattle.txn_shard_laws.proofs.VoteKeeps.{voted_keeps, voted_start, voted_ticks}
+use Rattle.txn_shard_laws.specs.Unreleased.{AllClosing}
+use Rattle.txn_shard_laws.proofs.Closed.{closing_keeps}
+use Rattle.txn_shard_laws.proofs.ClosedStarts.{closing_start, closing_ticks}
+use Rattle.txn_shard_laws.proofs.PassedKeeps.{passed_keeps, passed_start, passed_ticks}
+use Rattle.txn_decision_laws.proofs.Entered.{entered_run}
+use Rattle.txn_decision_laws.proofs.DateKeeps.{dated_keeps}
+use Rattle.txn_decision_laws.proofs.DateStarts.{dated_start, dated_ticks}
+use Rattle.txn_shard_laws.proofs.FreshKeeps.{fresh_keeps, fresh_start, fresh_ticks}
 use Rattle.fence_laws.proofs.StepsOf.{moments_run}
 use Rattle.txn_line_laws.proofs.Facts.{Facts}
 

@@ -20,7 +20,7 @@ use Rattle.rss_machine.specs.declared.session.OwnerKind.TheVariants as kind
 use Rattle.rss_machine.specs.declared.session.Session.TheVariants as session
 use Rattle.rss_machine.specs.declared.state.OwnerFate.TheVariants.{Ended}
 use Rattle.shard_laws.specs.Committed.{written_value}
-use Rattle.txn_date_laws.specs.Entered.{is_txn_service}
+use Rattle.txn_decision_laws.specs.Entered.{is_txn_service}
 
 -- a placed call of a transaction service with its time, whether it only reads, the keys that it reads, and the lines that
 -- show them: a committed transaction, one whose guard failed, or a snapshot that has ended

@@ -16,7 +16,7 @@ use Rattle.rss_tables.specs.declared.phases.TxnPhase.TheVariants as phase
 use Rattle.rss_machine.specs.State.{State, shard_at}
 use Rattle.session_laws.specs.Frames.{Frame, frame_of, nth_line}
 use Rattle.session_laws.proofs.Frames.{frames_length, frames_nth}
-use Rattle.shard_time_laws.specs.Applied.{IsApplied}
+use Rattle.shard_laws.specs.Applied.{IsApplied}
 use Rattle.txn_state_laws.specs.Decided.{AllDecided, CommitsAt, DecidedIs}
 use Rattle.txn_state_laws.specs.Framed.{AllFramed, OfAttempt, IsLineOf}
 use Rattle.txn_state_laws.specs.Justified.{Kept, may_be_prepared}

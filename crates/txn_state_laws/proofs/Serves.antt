@@ -14,7 +14,7 @@ use Rattle.rss_machine.specs.Moves.{serves_shard}
 use Rattle.rss_machine.specs.State.{State, shard_at}
 use Rattle.world_laws.proofs.Looks.{get_or_set}
 use Rattle.shard_laws.proofs.Laters.{decision_later}
-use Rattle.shard_time_laws.specs.Orderly.{IsInOrder}
+use Rattle.shard_laws.specs.Orderly.{IsInOrder}
 use Rattle.shard_event_laws.specs.Events.{Event, WasAsked}
 use Rattle.txn_state_laws.specs.Justified.{AllJust, IsJust, LockIs, PrepareIs}
 use Rattle.txn_state_laws.specs.Orderly.{AllInOrder}

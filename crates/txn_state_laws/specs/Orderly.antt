@@ -18,7 +18,7 @@ use Rattle.shard_laws.specs.Committed.{keeps_key}
 use Rattle.shard_laws.specs.Entries.{holder_of}
 use Rattle.shard_laws.specs.Fitting.{is_written}
 use Rattle.shard_laws.specs.Locked.{IsGone}
-use Rattle.shard_time_laws.specs.Orderly.{IsOrderly, IsInOrder, HoldsShown}
+use Rattle.shard_laws.specs.Orderly.{IsOrderly, IsInOrder, HoldsShown}
 use Rattle.shard_event_laws.specs.Events.{WasAsked}
 use Rattle.txn_laws.specs.Files.{IsKey}
 use Rattle.txn_state_laws.specs.Framed.{OfAttempt, IsLineOf}

@@ -11,7 +11,7 @@ use Rattle.rss_tables.specs.TransactionSession.{TxnSession, computed, writes_on}
 use Rattle.rss_machine.specs.State.{State, shard_at}
 use Rattle.shard_laws.specs.Fitting.{IsPreparedAt}
 use Rattle.shard_laws.specs.Locked.{IsGone}
-use Rattle.shard_time_laws.specs.Applied.{IsApplied}
+use Rattle.shard_laws.specs.Applied.{IsApplied}
 use Rattle.txn_state_laws.specs.Framed.{OfAttempt, IsLineOf}
 use Rattle.txn_state_laws.specs.Justified.{Kept}
 use Rattle.txn_state_laws.specs.Replied.{Replied}

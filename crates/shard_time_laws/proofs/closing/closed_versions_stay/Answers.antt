@@ -1,5 +1,0 @@
-use Rattle.shard_time_laws.proofs.Stays.{closes_stay}
-use Rattle.shard_time_laws.proofs.closing.closed_versions_stay.Goals as goal
-
-pub returns : goal.returns
-returns c = closes_stay

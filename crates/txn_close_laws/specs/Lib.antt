@@ -1,2 +1,0 @@
-pub mod Unreleased
-pub mod Laws

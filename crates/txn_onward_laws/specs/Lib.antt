@@ -1,3 +1,0 @@
-pub mod Undone
-pub mod Alone
-pub mod Laws

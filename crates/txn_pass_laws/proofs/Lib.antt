@@ -1,4 +1,0 @@
-pub mod Shown
-pub mod Ends
-pub mod Serves
-pub mod Keeps

@@ -1,0 +1,5 @@
+pub mod Standing
+pub mod FrameLaws
+pub mod Undone
+pub mod Alone
+pub mod OnwardLaws
