@@ -38,7 +38,7 @@ use Rattle.rss_machine.specs.declared.session.Session.TheVariants as session
 use Rattle.rss_machine.specs.declared.step.Step.{Step}
 use Rattle.rss_machine.specs.declared.step.StepKind.{StepKind}
 use Rattle.rss_machine.specs.declared.step.StepKind.TheVariants.{Act, Go, Lose, Again, Kill, Stub}
-use Rattle.built_laws.specs.Ready.{IsReady, is_replica, is_few, is_call_request, body_number, is_fix_work, HeardUpTo}
+use Rattle.built_laws.specs.Ready.{IsReady, is_few, is_call_request, body_number, is_fix_work, HeardUpTo}
 use Rattle.built_laws.proofs.Scripts.{IsBuilt, built_is, place_service, service_is}
 use Rattle.built_laws.proofs.Simple.{FewUpTo, IsStage, IsOwner, IsUnder, IsRequest, IsBody, Simple, raised}
 use Rattle.built_laws.proofs.Moves.{p_ticks, no_owner_is}
@@ -46,7 +46,7 @@ use Rattle.built_laws.proofs.Launches.{all_of}
 use Rattle.built_laws.proofs.Acts.{p_act}
 use Rattle.built_laws.proofs.Comes.{p_delivers}
 use Rattle.built_laws.proofs.Losses.{p_loses}
-use Rattle.world_laws.specs.Exchanges.{is_request, Exchanges}
+use Rattle.world_laws.specs.Exchanges.{is_request, Exchanges, is_replica}
 use Rattle.world_laws.proofs.Clock.{clock_step, run_counted}
 use Rattle.world_laws.proofs.Looks.{get_or_one, get_or_repeat, some_is, none_is_not}
 use Rattle.world_laws.proofs.Replies.{exchanges_run}

@@ -28,7 +28,8 @@ use Rattle.rss_machine.specs.State.{State, owner_at}
 use Rattle.rss_machine.specs.declared.session.OwnerKind.{OwnerKind}
 use Rattle.rss_machine.specs.declared.session.OwnerKind.TheVariants as kind
 use Rattle.rss_machine.specs.declared.session.Session.TheVariants as session
-use Rattle.built_laws.specs.Ready.{is_replica, body_number}
+use Rattle.world_laws.specs.Exchanges.{is_replica}
+use Rattle.built_laws.specs.Ready.{body_number}
 use Rattle.built_laws.proofs.Scripts.{IsBuilt, place_service}
 use Rattle.built_laws.proofs.Simple.{IsEnd, IsPhase, IsCall, IsFix, IsUnder, IsKind, IsRequest, IsBody, Simple, raised}
 use Rattle.built_laws.proofs.Moves.{p_fate, p_owner}

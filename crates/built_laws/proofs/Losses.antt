@@ -28,7 +28,7 @@ use Rattle.rss_machine.specs.declared.session.OwnerKind.{OwnerKind}
 use Rattle.rss_machine.specs.declared.session.OwnerKind.TheVariants as kind
 use Rattle.rss_machine.specs.declared.session.Session.TheVariants as session
 use Rattle.rss_machine.specs.declared.state.OwnerFate.TheVariants.{CutOff}
-use Rattle.built_laws.specs.Ready.{is_replica}
+use Rattle.world_laws.specs.Exchanges.{is_replica}
 use Rattle.built_laws.proofs.Scripts.{place_service}
 use Rattle.built_laws.proofs.Simple.{IsCall, IsFix, IsUnder, IsBody, Simple, raised}
 use Rattle.built_laws.proofs.Moves.{p_fate, p_owner, p_sends, p_dies, p_loses_stub}

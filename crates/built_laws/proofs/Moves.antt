@@ -28,7 +28,8 @@ use Rattle.rss_machine.specs.State.{State, Stage, Owner, no_stage, no_owner, sta
 use Rattle.rss_machine.specs.declared.session.OwnerKind.{OwnerKind}
 use Rattle.rss_machine.specs.declared.session.OwnerKind.TheVariants as kind
 use Rattle.rss_machine.specs.declared.state.OwnerFate.{OwnerFate}
-use Rattle.built_laws.specs.Ready.{no_plan, is_replica}
+use Rattle.world_laws.specs.Exchanges.{is_replica}
+use Rattle.built_laws.specs.Ready.{no_plan}
 use Rattle.built_laws.proofs.Scripts.{place_service}
 use Rattle.built_laws.proofs.Simple.{IsStage, IsOwner, IsKind, IsBody, IsRequest, Simple, work_service, work_of, raised, each_set, each_set_at, each_more}
 use Rattle.world_laws.proofs.Looks.{looks, get_or_repeat, some_is, none_is_not}

@@ -29,7 +29,8 @@ use Rattle.rss_machine.specs.State.{State, Stage, Owner, no_stage, owner_at}
 use Rattle.rss_machine.specs.declared.session.OwnerKind.{OwnerKind}
 use Rattle.rss_machine.specs.declared.session.OwnerKind.TheVariants as kind
 use Rattle.rss_machine.specs.declared.session.Session.TheVariants as session
-use Rattle.built_laws.specs.Ready.{no_plan, is_replica, body_number, is_fix_work, HeardUpTo}
+use Rattle.world_laws.specs.Exchanges.{is_replica}
+use Rattle.built_laws.specs.Ready.{no_plan, body_number, is_fix_work, HeardUpTo}
 use Rattle.built_laws.proofs.Scripts.{place_service}
 use Rattle.world_laws.proofs.Looks.{get_or_set, get_or_append, get_or_one}
 

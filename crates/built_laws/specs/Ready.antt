@@ -1,7 +1,6 @@
 -- What holds in every state of a run of a file that is built, so far as the code of its steps needs it.
 use Rattle.std.specs.Prelude.{◌≡◌, ℕ, ◌+◌, ◌*◌, ◌≤◌, Bool, true, false, List, [], ◌∷◌, length, get_or, Option, Some, None}
 use Rattle.rss_names.specs.declared.service.Target.{Target}
-use Rattle.rss_names.specs.declared.service.Target.TheVariants.{Shard, Replica}
 use Rattle.causal_context.specs.declared.dep.Dep.{Dep}
 use Rattle.causal_context.specs.Deps.{deps_of}
 use Rattle.pipeline_lang.specs.declared.config.Config.{Config}
@@ -23,15 +22,11 @@ use Rattle.rss_machine.specs.Enabling.{next_statement}
 use Rattle.rss_machine.specs.Session.{Session, service_of}
 use Rattle.rss_machine.specs.State.{State, stage_at, owner_at}
 use Rattle.rss_machine.specs.declared.session.Session.TheVariants as session
+use Rattle.world_laws.specs.Exchanges.{is_replica}
 
 -- nothing is owed before a call
 abbrev pub no_plan : Plan
 no_plan = record { fences = []; enter = false }
-
--- whether a target is a replica
-abbrev pub is_replica : Target → Bool
-is_replica (Shard shard) = false
-is_replica (Replica service replica) = true
 
 -- whether a request is one of a register call, whose round of dependencies stores one at most
 abbrev pub is_few : List Dep → Bool

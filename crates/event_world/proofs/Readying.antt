@@ -7,7 +7,7 @@ use Rattle.rss_wire.specs.declared.message.Message.{Message}
 use Rattle.rss_wire.specs.declared.messages.Request.{Request}
 use Rattle.rss_wire.specs.Messages.{message_at, is_sent, meets, envelope_at, request_at, reply_at}
 use Rattle.rss_wire.specs.Net.{NetView}
-use Rattle.built_laws.specs.Ready.{is_replica}
+use Rattle.world_laws.specs.Exchanges.{is_replica}
 use Rattle.event_world.specs.declared.machine.Machine.{Machine}
 use Rattle.event_world.specs.Ready.{IsReady}
 

@@ -12,7 +12,7 @@ use Rattle.rss_tables.specs.RegisterSession.{RegSession, reply_cell}
 use Rattle.rss_tables.specs.Round.{hears}
 use Rattle.rss_tables.specs.Works.{plan_for}
 use Rattle.gryff_quorum.specs.Heard.{HasSmallStamps}
-use Rattle.built_laws.specs.Ready.{no_plan, is_replica, is_call_request, is_fix_work}
+use Rattle.built_laws.specs.Ready.{no_plan, is_call_request, is_fix_work}
 use Rattle.rss_machine.specs.Built.{is_built}
 use Rattle.rss_machine.specs.Enabling.{next_statement, owner_enabling}
 use Rattle.rss_machine.specs.Endings.{awaits_in}
@@ -20,6 +20,7 @@ use Rattle.rss_machine.specs.Session.{Session, service_of}
 use Rattle.rss_machine.specs.State.{State, stage_at, owner_at}
 use Rattle.rss_machine.specs.declared.session.Session.TheVariants as session
 use Rattle.rss_machine.specs.declared.turn.Enabling.TheVariants.{Never}
+use Rattle.world_laws.specs.Exchanges.{is_replica}
 use Rattle.event_world.specs.declared.machine.Machine.{Machine}
 use Rattle.event_world.specs.Machine.{state_of}
 

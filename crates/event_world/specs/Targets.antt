@@ -3,7 +3,7 @@ use Rattle.std.specs.Prelude.{ℕ, ◌≡◌, Bool}
 use Rattle.rss_names.specs.declared.service.Target.{Target}
 use Rattle.rss_names.specs.declared.service.Target.TheVariants.{Shard, Replica}
 use Rattle.rss_wire.specs.declared.messages.Request.{Request}
-use Rattle.built_laws.specs.Ready.{is_replica}
+use Rattle.world_laws.specs.Exchanges.{is_replica}
 
 -- whether a request is to a replica
 abbrev pub is_to_replica : Target × Request → Bool

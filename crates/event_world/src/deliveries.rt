@@ -6,7 +6,6 @@ ghost use Rattle.event_world.specs.Heard.{hears_reply};
 ghost use Rattle.event_world.specs.Moves.{notes_stored, served};
 ghost use Rattle.event_world.specs.Machine.{state_of, HasRoom, IsQuiet};
 ghost use Rattle.event_world.specs.Ready.{IsReady};
-ghost use Rattle.built_laws.specs.Ready.{is_replica};
 ghost use Rattle.rss_machine.specs.Marks.{is_store as is_store_of};
 ghost use Rattle.rss_machine.specs.Effect.{comes, request_comes, reply_comes};
 ghost use Rattle.rss_machine.specs.Moves.{marks_message};
@@ -19,6 +18,7 @@ ghost use Rattle.rss_wire.specs.declared.message.Fate.TheVariants.{Delivered, Re
 ghost use Rattle.rss_wire.specs.declared.messages.Reply.{Reply as ReplyRow};
 ghost use Rattle.rss_wire.specs.declared.messages.Request.{Request as RequestRow};
 ghost use Rattle.truetime.specs.Reading.{Reading};
+ghost use Rattle.world_laws.specs.Exchanges.{is_replica};
 ghost use Rattle.world_owners.specs.Under.{HearsSmallStamps, IsOfRegisters, is_fixing, session_heard, heard_sends, phase_in};
 
 use crate::machine::Machine;

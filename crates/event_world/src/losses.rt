@@ -4,7 +4,7 @@ ghost use Rattle.std.specs.Prelude.{ℕ, ◌≡◌, ◌+◌, ◌-◌, ◌<◌, �
 ghost use Rattle.event_world.specs.Machine.{state_of, HasRoom, IsQuiet};
 ghost use Rattle.event_world.specs.Moves.{ends_stage, stub_with};
 ghost use Rattle.event_world.specs.Ready.{IsReady};
-ghost use Rattle.built_laws.specs.Ready.{is_replica, is_call_request};
+ghost use Rattle.built_laws.specs.Ready.{is_call_request};
 ghost use Rattle.rss_machine.specs.Built.{is_built};
 ghost use Rattle.rss_machine.specs.Effect.{loses, loss_counts, is_cut_off, target_lost, replaces, asks_again};
 ghost use Rattle.pipeline_lang.specs.Config.{replicas_of};
@@ -20,6 +20,7 @@ ghost use Rattle.rss_wire.specs.Messages.{no_message, message_at, request_at};
 ghost use Rattle.rss_wire.specs.Net.{lose_refusal};
 ghost use Rattle.rss_wire.specs.declared.message.Fate.TheVariants.{Lost};
 ghost use Rattle.rss_wire.specs.declared.messages.Request.{Request as RequestRow};
+ghost use Rattle.world_laws.specs.Exchanges.{is_replica};
 
 use crate::machine::Machine;
 use register_context::RegisterContext;

@@ -29,7 +29,7 @@ use Rattle.stage_laws.proofs.ScriptRuns.{script_run}
 use Rattle.rss_cli.specs.Ordered.{HasRegularPlaces, FollowsScripts, EndsWhereWithheld}
 use Rattle.rss_cli.specs.Played.{are_built}
 use Rattle.rss_cli.specs.Served.{is_served, is_within, has_places, has_numbers}
-use Rattle.built_laws.specs.Ready.{is_replica}
+use Rattle.world_laws.specs.Exchanges.{is_replica}
 use Rattle.built_laws.proofs.BuiltRuns.{ready_run}
 use Rattle.world_laws.specs.Targets.{GivesPlaces, ShardsHavePlaces}
 use Rattle.loss_laws.proofs.Files.{withheld}

@@ -9,9 +9,10 @@ use Rattle.rss_wire.specs.Messages.{message_at}
 use Rattle.rss_tables.specs.Outs.{Out}
 use Rattle.rss_machine.specs.Moves.{sends}
 use Rattle.rss_machine.specs.State.{State, Owner, owner_at, no_owner}
+use Rattle.world_laws.specs.Exchanges.{is_replica}
 use Rattle.world_laws.proofs.Looks.{looks, get_or_set}
 use Rattle.world_laws.proofs.StoreMoves.{SameStores}
-use Rattle.shard_event_laws.specs.Facts.{Aside, IsNew, StaysWith, StaysWithout, NetGrows, Sends, SameShards, is_with_shards, is_replica, no_out, currents_after}
+use Rattle.shard_event_laws.specs.Facts.{Aside, IsNew, StaysWith, StaysWithout, NetGrows, Sends, SameShards, is_with_shards, no_out, currents_after}
 use Rattle.shard_event_laws.proofs.Sending.{sends_owned, sends_clock, sends_net, net_same}
 
 -- how one owner may change aside

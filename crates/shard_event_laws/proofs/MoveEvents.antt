@@ -29,6 +29,7 @@ use Rattle.rss_machine.specs.declared.session.Session.TheVariants as session
 use Rattle.rss_machine.specs.declared.state.Life.TheVariants as life
 use Rattle.rss_machine.specs.declared.state.OwnerFate.{OwnerFate}
 use Rattle.rss_machine.specs.declared.state.OwnerFate.TheVariants.{Ended, Dropped, CutOff}
+use Rattle.world_laws.specs.Exchanges.{is_replica}
 use Rattle.world_laws.proofs.Doings.{Changed, Beginning, calls, fences}
 use Rattle.world_laws.proofs.Looks.{looks}
 use Rattle.world_laws.proofs.Replies.{Sound, exchange_there, meets_envelope, meets_body, new_message}
@@ -40,7 +41,7 @@ use Rattle.world_laws.proofs.StoreMoves.{Serves}
 use Rattle.world_laws.proofs.ToldRuns.{Stepping, current_runs}
 use Rattle.reg_laws.proofs.Awaiting.{slot_current, none_current}
 use Rattle.shard_event_laws.specs.Events.{Event, aside, sends_again, serves_one}
-use Rattle.shard_event_laws.specs.Facts.{IsNew, IsLeft, NetGrows, is_replica}
+use Rattle.shard_event_laws.specs.Facts.{IsNew, IsLeft, NetGrows}
 use Rattle.shard_event_laws.proofs.Asides.{OneAside, stays_aside, set_asides, clock_same, still_aside, more_aside, grow_aside}
 use Rattle.shard_event_laws.proofs.Sending.{net_same, net_more, sends_net}
 

@@ -24,6 +24,7 @@ use Rattle.rss_machine.specs.State.{State, Owner, owner_at}
 use Rattle.rss_machine.specs.declared.session.Session.TheVariants as session
 use Rattle.rss_machine.specs.declared.state.OwnerFate.{OwnerFate}
 use Rattle.rss_machine.specs.declared.state.OwnerFate.TheVariants.{Ended, CutOff}
+use Rattle.world_laws.specs.Exchanges.{is_replica}
 use Rattle.world_laws.proofs.Doings.{Changed, Resting, plans, past, fixed, cleared, Working, owes_nothing, is_past, enters_own, Leaving, waits, fixes_work, fixes_own, asks_register, stamps_register, begins_snapshot, begins_txn, fence_done, stub_done, Doing, listens_one, fix_hears, fix_reached, register_hears, register_stores, register_reached, read_ends, write_ends, txn_ends, snap_ends, counts_one, cuts_one, is_closed, forgets_all, turns, stub_asks, launched, fix_session}
 use Rattle.world_laws.proofs.Looks.{looks}
 use Rattle.world_laws.proofs.Sent.{RoundOut, round_outs}
@@ -34,7 +35,7 @@ use Rattle.world_laws.proofs.TurnMoves.{IsNoTurn}
 use Rattle.reg_laws.proofs.Awaiting.{Awaiting, idle_current, current_without}
 use Rattle.shard_event_laws.specs.Events as event
 use Rattle.shard_event_laws.specs.Events.{Event, aside, AwaitsNothing, Launches, SettlesTo}
-use Rattle.shard_event_laws.specs.Facts.{StaysWithout, is_with_shards, is_replica, current_at, currents_after}
+use Rattle.shard_event_laws.specs.Facts.{StaysWithout, is_with_shards, current_at, currents_after}
 use Rattle.shard_event_laws.proofs.Asides.{OneAside, none_aside, clock_same, one_aside, sends_aside, ToReplica}
 use Rattle.shard_event_laws.proofs.MoveEvents.{closes_aside}
 use Rattle.shard_event_laws.proofs.Sending.{sends_clock, sends_net}

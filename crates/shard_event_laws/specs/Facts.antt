@@ -1,8 +1,6 @@
 -- What changes of owners, of the net and of shards from one moment to the next.
 use Rattle.std.specs.Prelude.{◌≡◌, ◌⊎◌, ℕ, ◌<◌, ◌≤◌, ◌+◌, Bool, true, false, List, [], ◌∷◌, length, get_or, set, Option, Some, None}
 use Rattle.rss_names.specs.declared.attempt.Attempt.{Attempt}
-use Rattle.rss_names.specs.declared.service.Target.{Target}
-use Rattle.rss_names.specs.declared.service.Target.TheVariants.{Shard, Replica}
 use Rattle.pipeline_lang.specs.declared.config.Config.{Config}
 use Rattle.rss_model.specs.declared.op.Op.{Op}
 use Rattle.rss_wire.specs.Messages.{message_at}
@@ -20,6 +18,7 @@ use Rattle.rss_machine.specs.declared.session.OwnerKind.TheVariants as kind
 use Rattle.rss_machine.specs.declared.session.Session.TheVariants as session
 use Rattle.world_laws.specs.Scripted.{IsScripted}
 use Rattle.rss_machine.specs.declared.state.OwnerFate.TheVariants.{Ended}
+use Rattle.world_laws.specs.Exchanges.{is_replica}
 
 -- whether what an owner has under way is with shards
 abbrev pub is_with_shards : Session → Bool
@@ -107,11 +106,6 @@ pub record IsNew (c : Config) (s : State) (w : Owner) : Type 0 where
   pub begun : w.dates.begun ≡ s.steps
   pub made : (x : Op) → w.kind ≡ kind.Calling x → IsScripted c w.stage x
   pub left : (attempt : Attempt) (shards : List ℕ) → w.kind ≡ kind.Stubbing (Some (attempt, shards)) → IsLeft s attempt shards
-
--- whether a target is a replica
-abbrev pub is_replica : Target → Bool
-is_replica (Shard shard) = false
-is_replica (Replica service replica) = true
 
 -- nothing happens to transactions, snapshots and shards, but that some are closed
 pub record Aside (c : Config) (s t : State) : Type 0 where

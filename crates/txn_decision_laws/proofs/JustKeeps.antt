@@ -27,12 +27,13 @@ use Rattle.rss_machine.specs.Effect.{least_shard}
 use Rattle.rss_machine.specs.State.{State, Owner, owner_at, no_owner}
 use Rattle.rss_machine.specs.declared.session.OwnerKind.TheVariants as kind
 use Rattle.rss_machine.specs.declared.session.Session.TheVariants as session
+use Rattle.world_laws.specs.Exchanges.{is_replica}
 use Rattle.session_laws.specs.Awaits.{txn_awaits, snap_awaits}
 use Rattle.session_laws.specs.Frames.{nth_line}
 use Rattle.session_laws.specs.SnapCases.{SnapTurn}
 use Rattle.session_laws.proofs.SnapCases.{snap_case}
 use Rattle.shard_event_laws.specs.Events.{Event, Hears, WasAsked, TxnTurns, SnapTurns, SendsAgain, left_to_await, heard_at, aside, begins_txn, begins_snapshot, txn_hears_one, snap_hears_one, txn_wakes_one, snap_wakes_one, txn_passes_time, sends_again, serves_one, stub_asks, stub_tells}
-use Rattle.shard_event_laws.specs.Facts.{IsAsking, OneOwner, Sends, is_replica, no_out}
+use Rattle.shard_event_laws.specs.Facts.{IsAsking, OneOwner, Sends, no_out}
 use Rattle.txn_state_laws.specs.Awaited.{LineHears}
 use Rattle.txn_state_laws.specs.Decided.{AllDecided, known_commit}
 use Rattle.txn_state_laws.specs.Framed.{StubFramed}

@@ -33,7 +33,7 @@ use Rattle.shard_laws.specs.Served.{IsReached}
 use Rattle.shard_laws.proofs.Fits.{served_more, reached_after}
 use Rattle.shard_laws.proofs.Rising.{each_more, each_append}
 use Rattle.txn_laws.specs.Serving.{WasSentTo}
-use Rattle.txn_laws.specs.Given.{IsReplyOf, WasGiven, RepliesGiven}
+use Rattle.txn_laws.specs.Given.{IsReplyOf, IsShardReply, WasGiven, RepliesGiven}
 use Rattle.txn_laws.proofs.ShardWalk.{ShardKeeps, shard_walk}
 use Rattle.txn_laws.proofs.Serves.{sent_later, starts_reached}
 
@@ -52,16 +52,18 @@ record Gives (u s : State) : Type 0 where
   given : RepliesGiven u s
 
 -- a reply that was there before
-was_reply : (s t : State) → Sound s → Later s t → (m n : ℕ) (q : Request) (r : Reply) → length t.shards ≡ length s.shards → m < length s.net → IsReplyOf t m n q r → IsReplyOf s m n q r
+was_reply : (s t : State) → Sound s → Later s t → (m n : ℕ) (q : Request) (r : Reply) → length t.shards ≡ length s.shards → m < length s.net → IsShardReply t m n q r → IsShardReply s m n q r
 was_reply s t g l m n q r k i x =
     let e : (message_at t.net m).envelope ≡ (message_at s.net m).envelope = l.envelopes m i in
-    let back = exchange_there s.net g.sound m x.numbered i in
+    let back = exchange_there s.net g.sound m x.is.numbered i in
     record {
-      numbered = x.numbered;
-      sent = i;
-      replies = sym (l.bodies m i) ∙ x.replies;
-      asked = sym (l.bodies (message_at s.net m).envelope.exchange (omega (arith, back, i))) ∙ ap (λ (v : Envelope). (message_at t.net v.exchange).body) (sym e) ∙ x.asked;
-      target = ap (λ (v : Envelope). v.target) (sym e) ∙ x.target;
+      is = record {
+        numbered = x.is.numbered;
+        sent = i;
+        says = sym (l.bodies m i) ∙ x.is.says;
+        asked = sym (l.bodies (message_at s.net m).envelope.exchange (omega (arith, back, i))) ∙ ap (λ (v : Envelope). (message_at t.net v.exchange).body) (sym e) ∙ x.is.asked;
+        from = ap (λ (v : Envelope). v.target) (sym e) ∙ x.is.from;
+      };
       inside = (let a = x.inside in omega (arith, a, k));
     }
 
@@ -95,12 +97,12 @@ with_exchange : (u s t : State) (m n : ℕ) (q : Request) (r : Reply) → Later 
 with_exchange u s t m n q r l i x = subst (λ (v : Envelope). WasGiven u t n v.exchange q r) (sym (l.envelopes m i)) x
 
 -- old replies where no shard changes
-old_reply : (u s t : State) → Gives u s → Later s t → t.shards ≡ s.shards → (m n : ℕ) (q : Request) (r : Reply) → m < length s.net → IsReplyOf t m n q r → WasGiven u t n (message_at t.net m).envelope.exchange q r
+old_reply : (u s t : State) → Gives u s → Later s t → t.shards ≡ s.shards → (m n : ℕ) (q : Request) (r : Reply) → m < length s.net → IsShardReply t m n q r → WasGiven u t n (message_at t.net m).envelope.exchange q r
 old_reply u s t g l e m n q r i x =
     let y = was_reply s t g.sound l m n q r (ap (λ (v : List ShardState). length v) e) i x in
     with_exchange u s t m n q r l i (given_same u s t n (message_at s.net m).envelope.exchange q r l (ap (λ (v : List ShardState). get_or v (n - 1) (opening_shard [])) e) (g.given.each m n q r y))
 
-gives_same : (u s t : State) → Gives u s → Sound t → Later s t → t.moment ≡ s.moment → t.shards ≡ s.shards → ((m n : ℕ) (q : Request) (r : Reply) → IsReplyOf t m n q r → m < length s.net) → Gives u t
+gives_same : (u s t : State) → Gives u s → Sound t → Later s t → t.moment ≡ s.moment → t.shards ≡ s.shards → ((m n : ℕ) (q : Request) (r : Reply) → IsShardReply t m n q r → m < length s.net) → Gives u t
 gives_same u s t g d l k e f = record {
   sound = d;
   moment = (let a = g.moment in omega (arith, a, k));
@@ -124,26 +126,26 @@ same_shard : (a b : ℕ) → Shard a ≡ Shard b → a ≡ b
 same_shard a b e = cc
 
 -- a request that is sent is no reply
-sent_old : (u s : State) (o : ℕ) (out : Out) (m n : ℕ) (q : Request) (r : Reply) → IsReplyOf (sends_one s o out) m n q r → m < length s.net
-sent_old u s o out m n q r x = by_place (place s.net new m x.sent)
+sent_old : (u s : State) (o : ℕ) (out : Out) (m n : ℕ) (q : Request) (r : Reply) → IsShardReply (sends_one s o out) m n q r → m < length s.net
+sent_old u s o out m n q r x = by_place (place s.net new m x.is.sent)
   where
     new : Message
     new = asked_message s.net o (owner_at s o).stage out.target out.request
 
     by_place : (m < length s.net) ⊎ (m ≡ length s.net) → m < length s.net
     by_place (inl i) = i
-    by_place (inr e) = absurd (request_no_reply out.request r (ap (λ (v : Message). v.body) (sym (new_message s.net new)) ∙ ap (λ (k : ℕ). (message_at (s.net ++ new ∷ []) k).body) (sym e) ∙ x.replies))
+    by_place (inr e) = absurd (request_no_reply out.request r (ap (λ (v : Message). v.body) (sym (new_message s.net new)) ∙ ap (λ (k : ℕ). (message_at (s.net ++ new ∷ []) k).body) (sym e) ∙ x.is.says))
 
 -- a reply of a replica is none of a shard
-replica_old : (s : State) (k : ℕ) (service : ServiceId) (replica : ℕ) (p : Request) → Serves s k p (Replica service replica) → (m n : ℕ) (q : Request) (r : Reply) → IsReplyOf (notes_served (serves_replica s k service replica p) (message_at s.net k).envelope.owner service p) m n q r → m < length s.net
-replica_old s k service replica p d m n q r x = by_place (place s.net new m x.sent)
+replica_old : (s : State) (k : ℕ) (service : ServiceId) (replica : ℕ) (p : Request) → Serves s k p (Replica service replica) → (m n : ℕ) (q : Request) (r : Reply) → IsShardReply (notes_served (serves_replica s k service replica p) (message_at s.net k).envelope.owner service p) m n q r → m < length s.net
+replica_old s k service replica p d m n q r x = by_place (place s.net new m x.is.sent)
   where
     new : Message
     new = answered_message s.net k (replica_reply (cells_at s service replica) p)
 
     by_place : (m < length s.net) ⊎ (m ≡ length s.net) → m < length s.net
     by_place (inl i) = i
-    by_place (inr e) = absurd (replica_no_shard service replica n (sym d.to ∙ ap (λ (v : Message). v.envelope.target) (sym (new_message s.net new)) ∙ ap (λ (j : ℕ). (message_at (s.net ++ new ∷ []) j).envelope.target) (sym e) ∙ x.target))
+    by_place (inr e) = absurd (replica_no_shard service replica n (sym d.to ∙ ap (λ (v : Message). v.envelope.target) (sym (new_message s.net new)) ∙ ap (λ (j : ℕ). (message_at (s.net ++ new ∷ []) j).envelope.target) (sym e) ∙ x.is.from))
 
 -- a shard serves a request
 module _ (u s : State) (k shard latest : ℕ) (p : Request) (i : u.moment ≤ latest) (d : Serves s k p (Shard shard)) (g : Gives u s) where
@@ -199,8 +201,8 @@ module _ (u s : State) (k shard latest : ℕ) (p : Request) (i : u.moment ≤ la
   sized : length t.shards ≡ length s.shards
   sized = length-set s.shards (shard - 1) (shard_after (shard_at s shard) latest p)
 
-  each_given : (m n : ℕ) (q : Request) (r : Reply) → IsReplyOf t m n q r → WasGiven u t n (message_at t.net m).envelope.exchange q r
-  each_given m n q r x = by_place (place s.net new m x.sent)
+  each_given : (m n : ℕ) (q : Request) (r : Reply) → IsShardReply t m n q r → WasGiven u t n (message_at t.net m).envelope.exchange q r
+  each_given m n q r x = by_place (place s.net new m x.is.sent)
     where
       newest : m ≡ length s.net → message_at t.net m ≡ new
       newest e = ap (λ (j : ℕ). message_at (s.net ++ new ∷ []) j) e ∙ new_message s.net new
@@ -209,10 +211,10 @@ module _ (u s : State) (k shard latest : ℕ) (p : Request) (i : u.moment ≤ la
       by_place (inl e) = with_exchange u s t m n q r l e (old_given n (message_at s.net m).envelope.exchange q r (g.given.each m n q r (was_reply s t g.sound l m n q r sized e x)))
       by_place (inr e) =
           let there : (message_at t.net m).envelope.exchange ≡ k = ap (λ (v : Message). v.envelope.exchange) (newest e) in
-          let asked : (message_at t.net k).body ≡ body.Request q = ap (λ (j : ℕ). (message_at t.net j).body) (sym there) ∙ x.asked in
+          let asked : (message_at t.net k).body ≡ body.Request q = ap (λ (j : ℕ). (message_at t.net j).body) (sym there) ∙ x.is.asked in
           let f : p ≡ q = same_request p q (sym (l.bodies k d.sent ∙ d.asks) ∙ asked) in
-          let to : shard ≡ n = same_shard shard n (sym d.to ∙ ap (λ (v : Message). v.envelope.target) (sym (newest e)) ∙ x.target) in
-          let h : shard_reply (shard_at s shard) latest p ≡ r = same_reply (shard_reply (shard_at s shard) latest p) r (ap (λ (v : Message). v.body) (sym (newest e)) ∙ x.replies) in
+          let to : shard ≡ n = same_shard shard n (sym d.to ∙ ap (λ (v : Message). v.envelope.target) (sym (newest e)) ∙ x.is.from) in
+          let h : shard_reply (shard_at s shard) latest p ≡ r = same_reply (shard_reply (shard_at s shard) latest p) r (ap (λ (v : Message). v.body) (sym (newest e)) ∙ x.is.says) in
           subst (λ (j : ℕ). WasGiven u t n j q r) (sym there) (new_given n q r to f h (let b = x.inside in omega (arith, b, sized)))
 
   gives_served : Gives u (serves_shard s k shard latest p)
@@ -225,11 +227,11 @@ module _ (u s : State) (k shard latest : ℕ) (p : Request) (i : u.moment ≤ la
 
 gives_keeps : (u : State) (at : Reading) → u.moment ≤ at.latest → ShardKeeps at (Gives u)
 gives_keeps u at i = record {
-  fates = λ s m f g. gives_same u s (marks_message s m f) g (sound_keeps.fates s m f g.sound) ((later_keeps s).fates s m f (later_same s)) refl refl (λ k n q r x. (let a = x.sent in grind (arith, looks, a)));
+  fates = λ s m f g. gives_same u s (marks_message s m f) g (sound_keeps.fates s m f g.sound) ((later_keeps s).fates s m f (later_same s)) refl refl (λ k n q r x. (let a = x.is.sent in grind (arith, looks, a)));
   sends = λ s o out g. gives_same u s (sends_one s o out) g (sound_keeps.sends s o out g.sound) ((later_keeps s).sends s o out (later_same s)) refl refl (sent_old u s o out);
   shards = λ s m shard r d g. gives_served u s m shard at.latest r i d g;
   replicas = λ s m service replica r d g. gives_same u s (notes_served (serves_replica s m service replica r) (message_at s.net m).envelope.owner service r) g (sound_keeps.replicas s m service replica r d g.sound) ((later_keeps s).replicas s m service replica r d (later_same s)) refl refl (replica_old s m service replica r d);
-  others = λ s t e g. gives_same u s t g (sound_keeps.others s t e g.sound) ((later_keeps s).others s t e (later_same s)) e.moment e.shards (λ k n q r x. (let a = x.sent in let b = e.net in grind (arith, a, b)));
+  others = λ s t e g. gives_same u s t g (sound_keeps.others s t e g.sound) ((later_keeps s).others s t e (later_same s)) e.moment e.shards (λ k n q r x. (let a = x.is.sent in let b = e.net in grind (arith, a, b)));
 }
 
 -- the clock goes on
@@ -238,7 +240,7 @@ gives_ticked u s at g = record {
   sound = record { first = g.sound.first; sound = g.sound.sound };
   moment = (let a = g.moment in omega (arith, a));
   reached = g.reached;
-  given = record { each = λ m n q r x. ticked m n q r (g.given.each m n q r (record { numbered = x.numbered; sent = x.sent; replies = x.replies; asked = x.asked; target = x.target; inside = x.inside })) };
+  given = record { each = λ m n q r x. ticked m n q r (g.given.each m n q r (record { is = record { numbered = x.is.numbered; sent = x.is.sent; says = x.is.says; asked = x.is.asked; from = x.is.from }; inside = x.inside })) };
 }
   where
     ticked : (m n : ℕ) (q : Request) (r : Reply) → WasGiven u s n (message_at s.net m).envelope.exchange q r → WasGiven u (ticks s at) n (message_at s.net m).envelope.exchange q r
@@ -265,14 +267,14 @@ gives_start c = record {
   sound = sound_start c;
   moment = omega arith;
   reached = λ n. starts_reached c 1 c.shard_services (n - 1);
-  given = record { each = λ m n q r x. absurd (let a = x.numbered in let b : m < 1 = x.sent in omega (arith, a, b)) };
+  given = record { each = λ m n q r x. absurd (let a = x.is.numbered in let b : m < 1 = x.is.sent in omega (arith, a, b)) };
 }
 
 -- from a state on, of which the replies that are there are known
 gives_again : (c : Config) (u : State) → Gives (start c) u → Gives u u
 gives_again c u g = record { sound = g.sound; moment = omega arith; reached = g.reached; given = record { each = λ m n q r x. again m n q r x (g.given.each m n q r x) } }
   where
-    again : (m n : ℕ) (q : Request) (r : Reply) → IsReplyOf u m n q r → WasGiven (start c) u n (message_at u.net m).envelope.exchange q r → WasGiven u u n (message_at u.net m).envelope.exchange q r
+    again : (m n : ℕ) (q : Request) (r : Reply) → IsShardReply u m n q r → WasGiven (start c) u n (message_at u.net m).envelope.exchange q r → WasGiven u u n (message_at u.net m).envelope.exchange q r
     again m n q r x y = record {
       before = y.before;
       reached = y.reached;
@@ -281,7 +283,7 @@ gives_again c u g = record { sound = g.sound; moment = omega arith; reached = g.
       requests = y.requests;
       by = y.by;
       each = y.each;
-      not_before = λ b. absurd (let e = exchange_there u.net g.sound.sound m x.numbered x.sent in let a = x.sent in omega (arith, a, b, e));
+      not_before = λ b. absurd (let e = exchange_there u.net g.sound.sound m x.is.numbered x.is.sent in let a = x.is.sent in omega (arith, a, b, e));
     }
 
 gives_from : (c : Config) (steps : List Step) (u v s : State) → run_from c v steps ≡ Some s → Gives u v → Gives u s

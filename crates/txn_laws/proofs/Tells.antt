@@ -27,7 +27,7 @@ use Rattle.shard_laws.proofs.Fits.{reached_after, prepared_told, decided_told, i
 use Rattle.shard_laws.proofs.Laters.{held_later, prepared_later, decision_later, gone_later, floor_later, answered_floor}
 use Rattle.shard_laws.proofs.Released.{released_gone}
 use Rattle.shard_laws.proofs.Replies.{granted}
-use Rattle.txn_laws.specs.Given.{IsReplyOf, RepliesGiven}
+use Rattle.txn_laws.specs.Given.{IsShardReply, RepliesGiven}
 use Rattle.txn_laws.specs.Told.{Holds, RepliesTell}
 use Rattle.txn_laws.proofs.Gives.{replies_given}
 
@@ -68,7 +68,7 @@ inquired_after sh latest a outcome e = inquired_told sh latest a outcome e
 
 module _ (u s : State) (g : RepliesGiven u s) where
   -- what holds right after the reply, and of what comes of it, holds now
-  carried : (P : Shard → Type 0) (m shard : ℕ) (q : Request) (r : Reply) → IsReplyOf s m shard q r → ((sh : Shard) (latest : ℕ) → IsReached sh → r ≡ shard_reply sh latest q → (rs : List (ℕ × Request)) → P (served (shard_after sh latest q) rs)) → P (shard_at s shard)
+  carried : (P : Shard → Type 0) (m shard : ℕ) (q : Request) (r : Reply) → IsShardReply s m shard q r → ((sh : Shard) (latest : ℕ) → IsReached sh → r ≡ shard_reply sh latest q → (rs : List (ℕ × Request)) → P (served (shard_after sh latest q) rs)) → P (shard_at s shard)
   carried P m shard q r x f = let w = g.each m shard q r x in subst P w.by (f w.before w.latest w.reached w.reply w.requests)
 
   tell : RepliesTell s

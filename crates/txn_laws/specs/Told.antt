@@ -13,7 +13,7 @@ use Rattle.rss_machine.specs.State.{State, shard_at}
 use Rattle.shard_laws.specs.Entries.{holder_of}
 use Rattle.shard_laws.specs.Locked.{IsGone}
 use Rattle.shard_laws.specs.Fitting.{IsPreparedAt}
-use Rattle.txn_laws.specs.Given.{IsReplyOf}
+use Rattle.txn_laws.specs.Given.{IsShardReply}
 
 -- an attempt holds locks
 pub record Holds (sh : Shard) (attempt : Attempt) : Type 0 where
@@ -25,19 +25,19 @@ pub record Holds (sh : Shard) (attempt : Attempt) : Type 0 where
 -- the floor is at least the read time of each snapshot that was answered
 pub record RepliesTell (s : State) : Type 0 where
   pub granted : (m shard : ℕ) (a : Attempt) (coordinator : ℕ) (reads writes : List Key) (shown : List (Key × Version))
-      → IsReplyOf s m shard (Lock a coordinator reads writes) (reply.Granted shown)
+      → IsShardReply s m shard (Lock a coordinator reads writes) (reply.Granted shown)
       → Holds (shard_at s shard) a ⊎ IsGone (shard_at s shard) a
   pub prepared : (m shard : ℕ) (a : Attempt) (least earliest_end : ℕ) (writes : List (Key × ℕ)) (time : ℕ)
-      → IsReplyOf s m shard (Prepare a least earliest_end writes) (reply.Prepared time)
+      → IsShardReply s m shard (Prepare a least earliest_end writes) (reply.Prepared time)
       → IsPreparedAt (shard_at s shard) a time ⊎ IsGone (shard_at s shard) a
   pub decided : (m shard : ℕ) (a : Attempt) (commit : Bool) (time : ℕ) (outcome : Outcome)
-      → IsReplyOf s m shard (Decide a commit time) (reply.Decided outcome)
+      → IsShardReply s m shard (Decide a commit time) (reply.Decided outcome)
       → decision_in (shard_at s shard).decisions a ≡ Some outcome
   pub inquired : (m shard : ℕ) (a : Attempt) (outcome : Outcome)
-      → IsReplyOf s m shard (Inquire a) (reply.Outcome outcome)
+      → IsShardReply s m shard (Inquire a) (reply.Outcome outcome)
       → decision_in (shard_at s shard).decisions a ≡ Some outcome
   pub released : (m shard : ℕ) (a : Attempt) (time : ℕ) (last : Bool)
-      → IsReplyOf s m shard (Release a time last) reply.Released → IsGone (shard_at s shard) a
+      → IsShardReply s m shard (Release a time last) reply.Released → IsGone (shard_at s shard) a
   pub answered : (m shard : ℕ) (read_time least : ℕ) (keys : List Key) (skip : Bool) (versions : List (Key × Version)) (skipped : List Skipped)
-      → IsReplyOf s m shard (Snapshot read_time least keys skip) (reply.Values versions skipped)
+      → IsShardReply s m shard (Snapshot read_time least keys skip) (reply.Values versions skipped)
       → read_time ≤ (shard_at s shard).floor

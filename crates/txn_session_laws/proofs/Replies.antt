@@ -23,7 +23,8 @@ use Rattle.world_laws.specs.Exchanges.{is_request, IsSound, Fits}
 use Rattle.session_laws.specs.Awaits.{awaited_by, txn_awaits, snap_awaits, IsReplyTo}
 use Rattle.shard_event_laws.specs.Facts.{NetGrows}
 use Rattle.shard_event_laws.specs.Known.{Known}
-use Rattle.txn_state_laws.specs.Replied.{IsReplyOf, Replied}
+use Rattle.txn_laws.specs.Given.{IsReplyOf}
+use Rattle.txn_state_laws.specs.Replied.{Replied}
 use Rattle.txn_session_laws.proofs.Goes.{TxnHeard, SnapHeard}
 
 -- a reply that was sent stays

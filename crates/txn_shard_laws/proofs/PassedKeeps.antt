@@ -28,7 +28,8 @@ use Rattle.txn_state_laws.specs.Justified.{AllJust, SnapshotIs}
 use Rattle.txn_state_laws.specs.Onward.{Between}
 use Rattle.txn_state_laws.specs.Orderly.{AllOrderly, AllInOrder}
 use Rattle.txn_state_laws.specs.Passed.{AllPassed, EndsLater, IsPassedRightly, KeyPassed}
-use Rattle.txn_state_laws.specs.Replied.{IsReplyOf, Replied}
+use Rattle.txn_laws.specs.Given.{IsReplyOf}
+use Rattle.txn_state_laws.specs.Replied.{Replied}
 use Rattle.txn_state_laws.proofs.Grows.{DecisionsStay}
 use Rattle.txn_state_laws.proofs.Replies.{Quiet, Serves, event_does, quiet_reply, served_reply, reply_asked, ReplyComes, was, comes}
 use Rattle.txn_state_laws.proofs.Serves.{ShardGoes, stays, serves, goes, served_there, serves_at, decisions_stay}

@@ -25,7 +25,8 @@ use Rattle.txn_state_laws.specs.Framed.{AllFramed, LinesFit, OfAttempt}
 use Rattle.txn_state_laws.specs.Justified.{AllJust, Kept, PrepareIs}
 use Rattle.txn_state_laws.specs.Onward.{Between}
 use Rattle.txn_state_laws.specs.Orderly.{AllOrderly, AllInOrder}
-use Rattle.txn_state_laws.specs.Replied.{IsReplyOf, Replied}
+use Rattle.txn_laws.specs.Given.{IsReplyOf}
+use Rattle.txn_state_laws.specs.Replied.{Replied}
 use Rattle.txn_state_laws.specs.Voted.{AllVoted, VoteIs, LineApplied, prepared, aborted, applied}
 use Rattle.txn_state_laws.proofs.Grows.{DecisionsStay, line_first, line_last}
 use Rattle.txn_state_laws.proofs.Replies.{Quiet, Serves, event_does, quiet_reply, served_reply, reply_asked, ReplyComes, was, comes}

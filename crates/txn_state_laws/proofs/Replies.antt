@@ -17,12 +17,13 @@ use Rattle.rss_tables.specs.Outs.{Out}
 use Rattle.rss_tables.specs.ShardRow.{shard_reply}
 use Rattle.rss_machine.specs.Moves.{serves_shard}
 use Rattle.rss_machine.specs.State.{State, shard_at}
-use Rattle.world_laws.specs.Exchanges.{Exchanges, IsSound, is_request}
+use Rattle.world_laws.specs.Exchanges.{Exchanges, IsSound, is_request, is_replica}
 use Rattle.world_laws.proofs.Replies.{old_message, new_message, place, exchange_there}
 use Rattle.shard_event_laws.specs.Events.{Event, WasAsked, aside, begins_txn, begins_snapshot, txn_hears_one, snap_hears_one, txn_wakes_one, snap_wakes_one, txn_passes_time, sends_again, serves_one, stub_asks, stub_tells}
-use Rattle.shard_event_laws.specs.Facts.{NetGrows, SameShards, Sends, is_replica, no_out}
+use Rattle.shard_event_laws.specs.Facts.{NetGrows, SameShards, Sends, no_out}
 use Rattle.shard_event_laws.specs.Known.{Known}
-use Rattle.txn_state_laws.specs.Replied.{Replied, IsReplyOf}
+use Rattle.txn_laws.specs.Given.{IsReplyOf}
+use Rattle.txn_state_laws.specs.Replied.{Replied}
 
 -- a message is no reply of a shard: it is for a replica, or is a request
 pub data IsNoReply (x : Message) : Type 0 where

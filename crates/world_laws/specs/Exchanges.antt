@@ -17,6 +17,11 @@ abbrev pub is_request : Body → Bool
 is_request (body.Request r) = true
 is_request (body.Reply r) = false
 
+-- whether a target is a replica
+abbrev pub is_replica : Target → Bool
+is_replica (Shard shard) = false
+is_replica (Replica service replica) = true
+
 -- a shard in some state, at some reading, gives this reply to a request
 pub record ShardReplies (q : Request) (r : Reply) : Type 0 where
   pub shard : ShardState
