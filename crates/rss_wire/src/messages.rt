@@ -44,7 +44,6 @@ pub struct RegReply {
 }
 
 /// A request from a stage's call, fence or stub to a shard or a replica.
-#[derive(Drop)]
 pub enum Request {
     /// A transaction asks a shard for its locks. Answered by `Granted`, `Wait` or `Wounded`.
     Lock {
@@ -115,8 +114,58 @@ pub enum Request {
     },
 }
 
+// Written out, so that who lets a request go sees one call and none of its parts.
+impl Drop for Request {
+    fn drop(self) {
+        match self {
+            Request::Lock {
+                attempt: _attempt,
+                coordinator: _coordinator,
+                reads: _reads,
+                writes: _writes,
+            } => {}
+            Request::Prepare {
+                attempt: _attempt,
+                least: _least,
+                earliest_end: _earliest_end,
+                writes: _writes,
+            } => {}
+            Request::Decide {
+                attempt: _attempt,
+                commit: _commit,
+                time: _time,
+            } => {}
+            Request::Commit {
+                attempt: _attempt,
+                commit_time: _commit_time,
+            } => {}
+            Request::Abort { attempt: _attempt } => {}
+            Request::Inquire { attempt: _attempt } => {}
+            Request::Release {
+                attempt: _attempt,
+                time: _time,
+                last: _last,
+            } => {}
+            Request::Snapshot {
+                read_time: _read_time,
+                least: _least,
+                keys: _keys,
+                skip: _skip,
+            } => {}
+            Request::Fix { deps: _deps } => {}
+            Request::Ask { key: _key } => {}
+            Request::Stamp { key: _key } => {}
+            Request::Store {
+                key: _key,
+                value: _value,
+                stamp: _stamp,
+                writer: _writer,
+            } => {}
+        }
+    }
+}
+
 /// A reply of a shard or a replica to one request.
-#[derive(Drop)]
 pub enum Reply {
     /// To `Lock`, `Prepare` or `Release`: the attempt lost its locks to an older transaction.
     Wounded,
@@ -166,6 +215,37 @@ pub enum Reply {
     },
     /// To `Store`.
     Stored,
+}
+
+// Written out, so that who lets a reply go sees one call and none of its parts.
+impl Drop for Reply {
+    fn drop(self) {
+        match self {
+            Reply::Wounded => {}
+            Reply::Granted { shown: _shown } => {}
+            Reply::Wait { holders: _holders } => {}
+            Reply::Prepared {
+                prepare_time: _prepare_time,
+            } => {}
+            Reply::Decided { outcome: _outcome } => {}
+            Reply::Done => {}
+            Reply::Outcome { outcome: _outcome } => {}
+            Reply::Open => {}
+            Reply::Released => {}
+            Reply::Blocked { holders: _holders } => {}
+            Reply::Values {
+                versions: _versions,
+                skipped: _skipped,
+            } => {}
+            Reply::Fixed => {}
+            Reply::Held {
+                value: _value,
+                stamp: _stamp,
+                writer: _writer,
+            } => {}
+            Reply::Stored => {}
+        }
+    }
 }
 
 /// How far a session has come.

@@ -20,12 +20,23 @@ use std::marker::Model;
 /// Every message that was ever sent, by number. The numbers begin with 1, in the order sent, and no
 /// message is ever taken out. Contracts see the list of all messages, with `no_message` at place 0,
 /// and for how many more messages there is room. No call goes through all messages.
-#[derive(Drop)]
 pub struct Net {
     messages: Vec<Message>,
     lines: HashMap<Line, u32>,
     pending: usize,
     room: usize,
+}
+
+// Written out, so that who lets a net go sees one call and none of its parts.
+impl Drop for Net {
+    fn drop(self) {
+        let Net {
+            messages: _messages,
+            lines: _lines,
+            pending: _pending,
+            room: _room,
+        } = self;
+    }
 }
 
 impl Model for Net {
