@@ -1,7 +1,5 @@
-pub mod BehindLemmas
 pub mod HistoryLemmas
 pub mod OrderLemmas
 pub mod PathLemmas
 pub mod RegularSample
 pub mod ScriptSampleLemmas
-pub mod WalkGrows
