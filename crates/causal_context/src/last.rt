@@ -5,7 +5,7 @@ ghost use Rattle.causal_context.specs.Services.{IsService, AreServices, has_serv
 ghost use Rattle.causal_context.specs.Marks.{marked_from};
 ghost use Rattle.causal_context.specs.LastView.{nothing_last, last_alone, outside_alone, last_joined, last_fenced};
 
-use rss_names::ServiceId;
+use rss_names::{MOST_OF_A_KIND, ServiceId};
 use std::marker::Model;
 
 /// The services that were used last, and whether anything outside them was. Contracts see the
@@ -39,7 +39,7 @@ fn place_in(first: usize, number: u8) -> Option<usize>
     ensures same { result ≡ place_from first number }
     ensures within { IfSome result (λ place. place < 16) }
 {
-    if number == 0 || number > 8 {
+    if number == 0 || number > MOST_OF_A_KIND {
         return None;
     }
     Some(first + (number as usize - 1))

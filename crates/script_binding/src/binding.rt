@@ -4,7 +4,7 @@ ghost use Rattle.std.specs.Prelude.{◌≡◌, ◌≤◌, ◌<◌, ◌++◌, [],
 ghost use Rattle.script_binding.specs.Naming.{naming};
 ghost use Rattle.script_binding.specs.Limits.{HasFew, over_variables};
 ghost use Rattle.script_binding.specs.Mentions.{mentions};
-ghost use Rattle.script_binding.specs.Environment.{noted, mentioned};
+ghost use Rattle.script_binding.specs.Environment.{noted, mentioned, start};
 ghost use Rattle.script_binding.specs.Outcome.{refused, name_fault as name_fault_of, shape_fault as shape_fault_of, first_fault as first_fault_of, outcome, Advances, Tells};
 
 use crate::environment::{BoundStatement, Environment};
@@ -138,18 +138,23 @@ fn push_statement(script: &mut Script, statement: BoundStatement) -> Result<(), 
     }
 }
 
-/// The script with numbers in place of names, or its first fault: statement by statement, and within
-/// a statement in the order of the kinds.
-pub fn bind(alloc: Global, names: &Names, raw: &RawScript) -> Result<Script, BindError>
-    ensures bound { IfOk result (λ script. outcome (naming names.now) raw.now ≡ Ok script) }
+// Binds one statement after another behind a script and an environment that were just made.
+fn bind_all(
+    alloc: Global,
+    names: &Names,
+    environment: &mut Environment,
+    script: &mut Script,
+    raw: &RawScript,
+) -> Result<(), BindError>
+    requires start { environment.old ≡ start }
+    requires empty { script.old ≡ [] }
+    ensures bound { OnOk result (outcome (naming names.now) raw.now ≡ Ok script.new) }
     ensures refused { IfErr result (λ e. Tells e (outcome (naming names.now) raw.now)) }
 {
-    let mut environment = Environment::new(alloc);
-    let mut script = Seq::new(alloc);
     for statement in raw.as_slice() {
         let above = environment.statements;
-        match advance(alloc, names, &mut environment, statement) {
-            Ok(Ok(made)) => match push_statement(&mut script, made) {
+        match advance(alloc, names, environment, statement) {
+            Ok(Ok(made)) => match push_statement(script, made) {
                 Ok(()) => {}
                 Err(_) => return Err(BindError::OutOfMemory),
             },
@@ -163,5 +168,17 @@ pub fn bind(alloc: Global, names: &Names, raw: &RawScript) -> Result<Script, Bin
             }
         }
     }
+    Ok(())
+}
+
+/// The script with numbers in place of names, or its first fault: statement by statement, and within
+/// a statement in the order of the kinds.
+pub fn bind(alloc: Global, names: &Names, raw: &RawScript) -> Result<Script, BindError>
+    ensures bound { IfOk result (λ script. outcome (naming names.now) raw.now ≡ Ok script) }
+    ensures refused { IfErr result (λ e. Tells e (outcome (naming names.now) raw.now)) }
+{
+    let mut environment = Environment::new(alloc);
+    let mut script = Seq::new(alloc);
+    bind_all(alloc, names, &mut environment, &mut script, raw)?;
     Ok(script)
 }

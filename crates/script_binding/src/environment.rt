@@ -35,7 +35,6 @@ impl Model for Variables {
 }
 
 /// What the statements above a place have left behind.
-#[derive(Drop)]
 pub struct Environment {
     pub variables: Variables,
     /// How many statements stand above.
@@ -48,6 +47,20 @@ pub struct Environment {
     pub waited: Seq<StageId>,
     /// The pipes that it has closed.
     pub closed: Seq<u8>,
+}
+
+// Written out, so that who lets an environment go sees one call and none of its parts.
+impl Drop for Environment {
+    fn drop(self) {
+        let Environment {
+            variables: _variables,
+            statements: _statements,
+            depth: _depth,
+            spawned: _spawned,
+            waited: _waited,
+            closed: _closed,
+        } = self;
+    }
 }
 
 // Whether a name is `status`.

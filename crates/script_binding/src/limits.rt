@@ -7,7 +7,7 @@ ghost use Rattle.script_binding.specs.Mentions.{behind_writes, next_write};
 use crate::environment::Environment;
 use crate::mention::{RawStatement, first_write, width};
 use pipeline_lang::{Compare, Expr, Statement};
-use rss_names::Name;
+use rss_names::{MOST_KEYS_OF_A_CALL, Name};
 
 /// The most statements of a script.
 const MOST_STATEMENTS: u64 = 256;
@@ -17,9 +17,6 @@ const MOST_BLOCKS: u64 = 4;
 
 /// The most turns of a `repeat`.
 const MOST_TURNS: u64 = 1000;
-
-/// The most members of a list.
-const MOST_MEMBERS: usize = 8;
 
 // The token of the 257th statement.
 fn over_count(statements: u64) -> Option<u64>
@@ -65,8 +62,8 @@ fn over_pairs(pairs: &[(Name, Name)]) -> Option<u64>
     ensures same { result ≡ over_pairs_of pairs.now }
     ensures few { IfNone result (length pairs.now ≤ 8) }
 {
-    if pairs.len() > MOST_MEMBERS {
-        Some(1 + 3 * MOST_MEMBERS as u64)
+    if pairs.len() > MOST_KEYS_OF_A_CALL {
+        Some(1 + 3 * MOST_KEYS_OF_A_CALL as u64)
     } else {
         None
     }
@@ -91,8 +88,8 @@ fn over_writes(first: u64, writes: &[(Name, Expr<Name>)]) -> Option<u64>
     ensures same { result ≡ over_writes_of first writes.now }
     ensures few { IfNone result (length writes.now ≤ 8) }
 {
-    if writes.len() > MOST_MEMBERS {
-        Some(behind_writes(first, &writes[..MOST_MEMBERS]))
+    if writes.len() > MOST_KEYS_OF_A_CALL {
+        Some(behind_writes(first, &writes[..MOST_KEYS_OF_A_CALL]))
     } else {
         None
     }

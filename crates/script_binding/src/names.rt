@@ -4,10 +4,10 @@ ghost use Rattle.std.specs.Prelude.{◌≡◌, get_or};
 ghost use Rattle.script_binding.specs.Naming.{naming, register_at, register_of, key_at, key_of, stage_of, pipe_of, gives_to, takes_from};
 
 use pipeline_lang::{NameTable, PipeEnds};
-use rss_names::{Key, Name, Seq, ServiceId, ShardId, StageId};
+use rss_names::{Key, MOST_STAGES, Name, Seq, ServiceId, ShardId, StageId};
 
 /// How many stages, and how many pipes, a file has at most.
-const MOST: u16 = 16;
+const MOST: u16 = MOST_STAGES as u16;
 
 /// What the script of one stage can name. Every list stands in file order. Of the stages and the
 /// pipes the first 16 can be named.

@@ -1,8 +1,8 @@
 //! How much the scripts of a file do, as if every `when` held.
 
-ghost use Rattle.std.specs.Prelude.{◌≡◌, ◌≤◌, ◌-◌, ◌*◌, ◌^◌, ◌++◌, [], ◌∷◌, length, get_or, take, IfOk, OnOk, IsTrue, Ok, true};
-ghost use Rattle.pipeline_lang.specs.Counts.{turns_after, outer_after};
-ghost use Rattle.script_binding.specs.Counts.{is_call, nothing, tallied, is_within};
+ghost use Rattle.std.specs.Prelude.{◌≡◌, ◌≤◌, ◌<◌, ◌+◌, ◌-◌, ◌*◌, ◌^◌, ◌++◌, [], ◌∷◌, length, get_or, take, IfOk, OnOk, IsTrue, Ok, true, false};
+ghost use Rattle.pipeline_lang.specs.Counts.{turns_after, outer_after, executed};
+ghost use Rattle.script_binding.specs.Counts.{is_call, called, nothing, tallied, is_within};
 
 use crate::environment::BoundStatement;
 use pipeline_lang::{Script, Statement};
@@ -78,6 +78,37 @@ fn turn(turns: u128, outer: &mut Vec<u64>, statement: &BoundStatement) -> Result
     }
 }
 
+// Counts a script's statements and calls on top of these sums, and answers whether the statements
+// are within the limit. If they are not, the sums say nothing any more. No block is open at first.
+fn count(
+    outer: &mut Vec<u64>,
+    statements: &mut u128,
+    calls: &mut u128,
+    script: &[BoundStatement],
+) -> Result<bool, AllocError>
+    requires closed { outer.old.items ≡ [] }
+    requires few { statements.old ≤ 200000 }
+    requires called { calls.old ≤ 20001 }
+    ensures statements { result ≡ Ok true → statements.new ≡ statements.old + executed script.now }
+    ensures calls { result ≡ Ok true → calls.new ≡ calls.old + called script.now }
+    ensures within { result ≡ Ok true → statements.new ≤ 200000 }
+    ensures bounded { result ≡ Ok true → calls.new ≤ 220001 }
+    ensures over { result ≡ Ok false → 200000 < statements.old + executed script.now }
+{
+    let mut turns = 1u128;
+    for statement in script {
+        *statements += turns;
+        if *statements > MOST_STATEMENTS {
+            return Ok(false);
+        }
+        if is_call(statement) {
+            *calls += turns;
+        }
+        turns = turn(turns, outer, statement)?;
+    }
+    Ok(true)
+}
+
 impl Tally {
     /// The sums over no stages.
     pub fn new() -> Tally
@@ -97,18 +128,10 @@ impl Tally {
         ensures added { result ≡ Ok true → self.new ≡ tallied self.old script.now }
     {
         let mut outer = Vec::new(alloc);
-        let mut turns = 1u128;
         let mut statements = self.statements as u128;
         let mut calls = self.calls as u128 + 1;
-        for statement in script.as_slice() {
-            statements += turns;
-            if statements > MOST_STATEMENTS {
-                return Ok(false);
-            }
-            if is_call(statement) {
-                calls += turns;
-            }
-            turns = turn(turns, &mut outer, statement)?;
+        if !count(&mut outer, &mut statements, &mut calls, script.as_slice())? {
+            return Ok(false);
         }
         if calls > MOST_CALLS {
             return Ok(false);

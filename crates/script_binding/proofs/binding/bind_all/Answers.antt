@@ -4,7 +4,7 @@ use Rattle.pipeline_lang.specs.Statements.{Raw}
 use Rattle.script_binding.specs.Naming.{naming}
 use Rattle.script_binding.specs.Outcome.{Advances}
 use Rattle.script_binding.proofs.Passing.{goes_on}
-use Rattle.script_binding.proofs.binding.bind.Goals as goal
+use Rattle.script_binding.proofs.binding.bind_all.Goals as goal
 
 pub loop-statement-preserved : goal.loop-statement-preserved
 loop-statement-preserved c =

@@ -1,7 +1,7 @@
 use Rattle.std.proofs.Common.{◌≡◌, ◌≤◌, drop}
 use Rattle.script_binding.specs.Outcome.{outcome, outcome_in, behind}
 use Rattle.script_binding.specs.Naming.{naming}
-use Rattle.script_binding.proofs.binding.bind.Given as goal
+use Rattle.script_binding.proofs.binding.bind_all.Given as goal
 
 -- what was bound and what comes of the statements that are left are the whole
 abbrev pub invariant-loop-statement : goal.invariant-loop-statement
