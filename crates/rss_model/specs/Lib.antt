@@ -2,6 +2,7 @@
 pub mod Formula
 pub mod Operation
 pub mod History
+pub mod Tokens
 pub mod Mutation
 pub mod Samples
 -- the orders that a history demands, and those that meet them

@@ -1,13 +1,13 @@
 //! Histories: what stages did, in the order in which it happened.
 
 ghost use Rattle.std.specs.Prelude.{◌≡◌, IfOk};
+ghost use Rattle.rss_model.specs.Tokens.{same_token};
 
 use crate::op::{Op, Reply};
 use rss_names::{CallId, Seq, StageId};
 use std::alloc::{AllocError, Global};
 
 /// One entry of a history.
-#[derive(Drop)]
 pub enum Entry {
     /// A stage begins a call.
     Begin(CallId, StageId, Op),
@@ -19,6 +19,19 @@ pub enum Entry {
     Get(StageId, Token),
     /// A stage is over.
     Over(StageId, How),
+}
+
+// Written out, so that who lets an entry go sees one call and none of its parts.
+impl Drop for Entry {
+    fn drop(self) {
+        match self {
+            Entry::Begin(_call, _stage, _op) => {}
+            Entry::End(_call, _reply) => {}
+            Entry::Give(_stage, _token) => {}
+            Entry::Get(_stage, _token) => {}
+            Entry::Over(_stage, _how) => {}
+        }
+    }
 }
 
 impl Entry {
@@ -45,6 +58,13 @@ pub enum Token {
     Chunk(u8, u32),
     /// The exit of a stage.
     Exit(StageId),
+}
+
+/// Whether two tokens are the same.
+pub fn is_same_token(a: &Token, b: &Token) -> bool
+    ensures { result ≡ same_token a.now b.now }
+{
+    *a == *b
 }
 
 /// How a stage is over.

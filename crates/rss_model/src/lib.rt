@@ -5,7 +5,7 @@ mod history;
 mod laws;
 mod op;
 
-pub use history::{Candidate, Entry, History, How, Token};
+pub use history::{Candidate, Entry, History, How, Token, is_same_token};
 pub use laws::{
     causality_has_no_cycle, nothing_is_regular, read_follows_its_write, scripts_are_followed,
 };
