@@ -4,8 +4,6 @@
 mod index;
 mod sifting;
 mod table;
-#[cfg(test)]
-mod tests;
 mod writer;
 
 pub use table::PreparedTable;

@@ -11,8 +11,6 @@ mod locking;
 mod reading;
 mod room;
 mod shard;
-#[cfg(test)]
-mod tests;
 
 pub use laws::{first_decision_stays, floor_never_falls, keys_stay};
 pub use shard::Shard;

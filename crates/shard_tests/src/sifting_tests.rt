@@ -1,8 +1,8 @@
 //! Sifting as it is called.
 
-use crate::{PreparedTable, PreparedWriter};
 use rss_names::{Attempt, Key, Seq, ServiceId, ShardId};
 use rss_wire::{Holder, Skipped};
+use shard_prepared::{PreparedTable, PreparedWriter};
 use std::alloc::{AllocError, Global};
 use std::test::Fail;
 
