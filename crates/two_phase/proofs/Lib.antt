@@ -1,0 +1,4 @@
+pub mod Frees
+pub mod Opens
+pub mod Shapes
+pub mod Values
