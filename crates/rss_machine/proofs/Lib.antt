@@ -1,3 +1,4 @@
+-- Checks of the tables: no other file imports them.
 pub mod SampleFiles
 pub mod Sampling
 pub mod RowsRegister

@@ -44,10 +44,14 @@ marked-step : option_map (λ s. marked_step s r first_stamp) (run write_then_rea
 unfolding run run_from refusal effect replica_after replica_reply all_zero
 marked-step = refl
 
--- the true moment is above 44 first in step 5, and above 210 never
+-- the true moment is above 44 first in step 5, above 50 in step 6, and above 210 never
 time-step : option_map (λ s. step_of_time s 44) (run write_then_read smallest_steps) ≡ Some 5
 unfolding run run_from refusal effect replica_after replica_reply all_zero
 time-step = refl
+
+time-of-a-reading : option_map (λ s. step_of_time s 50) (run write_then_read smallest_steps) ≡ Some 6
+unfolding run run_from refusal effect replica_after replica_reply all_zero
+time-of-a-reading = refl
 
 time-to-come : option_map (λ s. step_of_time s 210) (run write_then_read smallest_steps) ≡ Some 22
 unfolding run run_from refusal effect replica_after replica_reply all_zero

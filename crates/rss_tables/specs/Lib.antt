@@ -14,6 +14,3 @@ pub mod SnapshotSession
 pub mod Works
 pub mod Losses
 pub mod Pipes
-pub mod Samples
-pub mod ShardSamples
-pub mod SessionSamples

@@ -1,8 +1,7 @@
 -- Samples of sessions over shards, each computed.
-use Rattle.std.specs.Prelude.{◌≡◌, ℕ, ◌+◌, ◌*◌, Bool, true, false, List, [], ◌∷◌, Option, Some, None, map, refl}
+use Rattle.std.specs.Prelude.{◌≡◌, ℕ, ◌+◌, ◌*◌, true, false, List, [], ◌∷◌, Some, None, map, refl}
 use Rattle.rss_names.specs.declared.attempt.Attempt.{Attempt}
 use Rattle.rss_names.specs.declared.service.Key.{Key}
-use Rattle.rss_names.specs.declared.service.ServiceId.{ServiceId}
 use Rattle.rss_names.specs.declared.service.ServiceId.TheVariants.{Txn, Reg}
 use Rattle.rss_names.specs.declared.service.Target.{Target}
 use Rattle.rss_names.specs.declared.service.Target.TheVariants.{Shard}
@@ -18,12 +17,11 @@ use Rattle.rss_wire.specs.declared.messages.Reply.TheVariants as reply
 use Rattle.rss_tables.specs.Lines.{line_at}
 use Rattle.rss_tables.specs.Outs.{Out}
 use Rattle.rss_tables.specs.SnapshotSession.{SnapSession, opening_snapshot, snap_hears}
-use Rattle.rss_tables.specs.TransactionSession.{TxnSession, opening_txn, txn_hears, txn_starts, waiting_time}
+use Rattle.rss_tables.specs.TransactionSession.{TxnSession, opening_txn, txn_hears, waiting_time}
 use Rattle.rss_tables.specs.Turns.{Turn}
-use Rattle.rss_tables.specs.Works.{Plan, plan_for, plan_all}
-use Rattle.rss_tables.specs.declared.fences.FenceWork.TheVariants.{Nothing, Past, Fix}
-use Rattle.rss_tables.specs.declared.phases.TxnPhase.TheVariants as phase
-use Rattle.rss_tables.specs.declared.phases.SnapPhase.TheVariants.{First, Second, Done}
+use Rattle.rss_tables.specs.Works.{plan_for, plan_all}
+use Rattle.rss_tables.specs.declared.fences.FenceWork.TheVariants.{Past, Fix}
+use Rattle.rss_tables.specs.declared.phases.SnapPhase.TheVariants.{Second, Done}
 
 abbrev x : Key
 x = record { service = Txn 1; index = 0 }
@@ -109,6 +107,10 @@ asked-again = refl
 
 second-round : (passed_by 104).after.phase ≡ Second 104
 second-round = refl
+
+-- also where the snapshot is at the writer's own time
+asked-at-its-time : (passed_by 74).after.phase ≡ Second 74
+asked-at-its-time = refl
 
 -- where x is shown at 50, the writer stands above the snapshot
 one-round : (passed_by 50).after.phase ≡ Done 50

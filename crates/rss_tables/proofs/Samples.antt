@@ -1,9 +1,7 @@
 -- Samples of the tables, each computed: the register r is written with 5 by call 1 and read by call 2.
-use Rattle.std.specs.Prelude.{◌≡◌, ℕ, Bool, true, false, List, [], ◌∷◌, length, replicate, Option, Some, None, refl}
+use Rattle.std.specs.Prelude.{◌≡◌, Bool, false, List, [], ◌∷◌, length, replicate, Some, refl}
 use Rattle.rss_names.specs.declared.service.Key.{Key}
-use Rattle.rss_names.specs.declared.service.ServiceId.{ServiceId}
 use Rattle.rss_names.specs.declared.service.ServiceId.TheVariants.{Reg}
-use Rattle.carstamps.specs.declared.carstamp.Carstamp.{Carstamp}
 use Rattle.rss_wire.specs.declared.messages.RegReply.{RegReply}
 use Rattle.rss_wire.specs.declared.messages.Request.TheVariants as request
 use Rattle.rss_wire.specs.declared.messages.Reply.TheVariants as reply

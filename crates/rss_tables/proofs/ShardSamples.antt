@@ -1,16 +1,15 @@
 -- Samples of a shard, each computed: who is wounded, who waits, which version is read, who is passed by.
-use Rattle.std.specs.Prelude.{◌≡◌, ℕ, Bool, true, false, List, [], ◌∷◌, Option, Some, None, map, refl}
+use Rattle.std.specs.Prelude.{◌≡◌, ℕ, Bool, true, false, List, [], ◌∷◌, Some, refl}
 use Rattle.rss_names.specs.declared.attempt.Attempt.{Attempt}
 use Rattle.rss_names.specs.declared.service.Key.{Key}
 use Rattle.rss_names.specs.declared.service.ServiceId.TheVariants.{Txn}
 use Rattle.rss_names.specs.declared.service.Target.TheVariants.{Shard as OfShard, Replica}
 use Rattle.rss_names.specs.declared.service.ServiceId.TheVariants as service
 use Rattle.rss_wire.specs.declared.messages.Outcome.TheVariants.{Committed, Aborted}
-use Rattle.rss_wire.specs.declared.messages.Request.TheVariants.{Lock, Prepare, Decide, Commit, Abort, Inquire, Release, Snapshot}
-use Rattle.rss_wire.specs.declared.messages.Reply.{Reply}
+use Rattle.rss_wire.specs.declared.messages.Request.TheVariants.{Lock, Prepare, Decide, Release, Snapshot}
 use Rattle.rss_wire.specs.declared.messages.Reply.TheVariants as reply
-use Rattle.rss_tables.specs.Locks.{LockHolder, attempts_of}
-use Rattle.rss_tables.specs.Losses.{no_losses, one_more_lost, reaches_tries, is_cut, cut_replicas, is_quorum_lost}
+use Rattle.rss_tables.specs.Locks.{attempts_of}
+use Rattle.rss_tables.specs.Losses.{no_losses, one_more_lost, reaches_tries, is_quorum_lost}
 use Rattle.rss_tables.specs.Prepared.{PreparedWriter, blocking, passed_by}
 use Rattle.rss_tables.specs.ShardRow.{Shard, opening_shard, shard_after, shard_reply, decision_in}
 use Rattle.rss_tables.specs.Versions.{KeyVersions, version_at}
@@ -87,6 +86,9 @@ seen-before = refl
 
 above : sifted 73 0 true ≡ ([], [])
 above = refl
+
+at-its-time : sifted 74 0 true ≡ ([], writer ∷ [])
+at-its-time = refl
 
 may-have-ended : sifted 1054 0 true ≡ (writer ∷ [], [])
 may-have-ended = refl
