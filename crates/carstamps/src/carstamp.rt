@@ -5,7 +5,7 @@ ghost use Rattle.carstamps.specs.Stamp.{IsBelow, IsAtMost, stamp_lt, next_stamp,
 
 /// The stamp of a register's value: a number, and the call that wrote the value. Stamps are ordered
 /// by number and then by call, so two writes never share one.
-#[derive(Clone, Copy, PartialEq, Eq, PartialOrd, Ord, Hash)]
+#[derive(Clone, Copy, PartialEq, Eq, PartialOrd, Ord)]
 pub struct Carstamp {
     pub number: u64,
     pub call: u32,

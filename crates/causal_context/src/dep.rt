@@ -5,7 +5,7 @@ use rss_names::Key;
 
 /// A value that was read from a register and may not be held by a majority of its replicas yet: it
 /// is stored at a majority before the reader's next register call.
-#[derive(Clone, Copy, PartialEq, Eq)]
+#[derive(Clone, Copy)]
 pub struct Dep {
     pub key: Key,
     pub value: u64,

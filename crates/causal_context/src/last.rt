@@ -10,7 +10,7 @@ use std::marker::Model;
 
 /// The services that were used last, and whether anything outside them was. Contracts see the
 /// services as a list in their order, without repeats. It takes no memory.
-#[derive(Clone, Copy, PartialEq, Eq)]
+#[derive(Clone, Copy)]
 #[tactic(auto, using(crate::specs::Marks::marks_again))]
 pub struct Last {
     marks: [bool; 16],

@@ -9,7 +9,7 @@ use rss_wire::RegReply;
 use std::marker::Model;
 
 /// A round over the replicas of a register service. Contracts see it as the tables' round.
-#[derive(Clone, Copy, PartialEq, Eq)]
+#[derive(Clone, Copy)]
 pub struct Round {
     replicas: u8,
     cut: [bool; 7],

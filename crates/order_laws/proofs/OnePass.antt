@@ -2,6 +2,7 @@
 use Rattle.std.proofs.Common.{◌≡◌, ℕ, zero, suc, ◌<◌, ◌⊎◌, ◌↔◌, inl, inr, Bool, true, false, List, length, arith, refl, sym, ap, ◌∙◌, subst}
 use Rattle.std.specs.Prelude.{IsTrue, ◌||◌, ◌&&◌, ◌==◌}
 use Rattle.std.proofs.lemmas.Grind.{common_steps}
+use Rattle.rss_model.specs.Tokens.{same_token}
 use Rattle.rss_model.specs.declared.history.Entry.{Entry}
 use Rattle.rss_model.specs.declared.history.Entry.TheVariants.{Begin, End, Give, Get, Over}
 use Rattle.rss_model.specs.declared.history.Token.{Token}
@@ -10,7 +11,7 @@ use Rattle.rss_model.specs.History.{entry_at, begins, ends, BeginsAt, EndsAt}
 use Rattle.rss_model.specs.Stages.{stage_at, stage_of, entry_stage}
 use Rattle.rss_model.specs.Causality.{Path, here, along, carried, BeforeByMessages}
 use Rattle.rss_model.specs.Behind.{BehindPlace, BehindStage, BehindToken}
-use Rattle.order_laws.specs.CallsBehind.{CallsBehind, calls_behind, behind_after, same_token}
+use Rattle.order_laws.specs.CallsBehind.{CallsBehind, calls_behind, behind_after}
 
 -- the test of messages
 same_token-true : (a b : Token) → same_token a b ≡ true → a ≡ b

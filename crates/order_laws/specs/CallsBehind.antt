@@ -1,23 +1,12 @@
 -- Which calls are behind each stage and each message, by one pass over a history from its first entry on.
 use Rattle.std.specs.Prelude.{ℕ, zero, suc, ◌==◌, ◌&&◌, ◌||◌, Bool, false, List}
+use Rattle.rss_model.specs.Tokens.{same_token}
 use Rattle.rss_model.specs.declared.history.Entry.{Entry}
 use Rattle.rss_model.specs.declared.history.Entry.TheVariants.{Begin, End, Give, Get, Over}
 use Rattle.rss_model.specs.declared.history.Token.{Token}
 use Rattle.rss_model.specs.declared.history.Token.TheVariants.{Spawn, Chunk, Exit}
 use Rattle.rss_model.specs.History.{entry_at}
 use Rattle.rss_model.specs.Stages.{stage_of}
-
--- whether two messages are one
-abbrev pub same_token : Token → Token → Bool
-same_token (Spawn a) (Spawn b) = a == b
-same_token (Spawn a) (Chunk p n) = false
-same_token (Spawn a) (Exit b) = false
-same_token (Chunk p n) (Spawn a) = false
-same_token (Chunk p n) (Chunk q m) = p == q && n == m
-same_token (Chunk p n) (Exit b) = false
-same_token (Exit a) (Spawn b) = false
-same_token (Exit a) (Chunk p n) = false
-same_token (Exit a) (Exit b) = a == b
 
 -- for each stage, and for each message, whether a call is behind it
 pub record CallsBehind : Type 0 where

@@ -60,7 +60,7 @@ impl Drop for Config {
 
 /// A service: its name, and the number of its replicas, which is 3, 5 or 7, or 0 for a service of
 /// transactions.
-#[derive(Clone, Copy, PartialEq, Eq)]
+#[derive(Clone, Copy)]
 pub struct ServiceDef {
     pub name: Name,
     pub id: ServiceId,
@@ -68,7 +68,7 @@ pub struct ServiceDef {
 }
 
 /// Who puts into a pipe, who takes from it, and how many chunks it holds, 1 to 64.
-#[derive(Clone, Copy, PartialEq, Eq)]
+#[derive(Clone, Copy)]
 pub struct PipeEnds {
     pub giver: StageId,
     pub taker: StageId,
@@ -94,7 +94,7 @@ impl Drop for Body {
 
 /// The requests of a stage to a target that are lost by order of the file: `count` of them, from
 /// number `first` on, counted from 1 in the order sent.
-#[derive(Clone, Copy, PartialEq, Eq)]
+#[derive(Clone, Copy)]
 pub struct Withhold {
     pub stage: StageId,
     pub target: Target,
@@ -103,7 +103,7 @@ pub struct Withhold {
 }
 
 /// A stage that is killed by order of the file in place of its Act of that number.
-#[derive(Clone, Copy, PartialEq, Eq)]
+#[derive(Clone, Copy)]
 pub struct KillAt {
     pub stage: StageId,
     pub act: u32,

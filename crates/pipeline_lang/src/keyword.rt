@@ -5,7 +5,7 @@ ghost use Rattle.std.specs.Str.{bytes_eq};
 ghost use Rattle.pipeline_lang.specs.Statements.{keyword as keyword_by};
 
 /// The word with which a statement begins.
-#[derive(Clone, Copy, PartialEq, Eq)]
+#[derive(Clone, Copy)]
 pub enum Keyword {
     Let,
     Read,

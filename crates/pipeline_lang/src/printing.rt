@@ -9,16 +9,8 @@ ghost use Rattle.pipeline_lang.specs.Printing.{term_text, expr_text, compare_tex
 
 use crate::script::{Compare, Expr, RawScript, Statement, Term};
 use crate::statements::RawStatement;
-use rss_names::Name;
+use rss_names::{Name, put_number};
 use std::alloc::{AllocError, Global};
-
-/// Adds a number.
-fn put_number(alloc: Global, text: &mut Vec<u8>, number: u64) -> Result<(), AllocError>
-    ensures { OnOk result (text.new.items ≡ text.old.items ++ decimal number) }
-{
-    let digits = number.to_string(alloc)?;
-    text.extend_from_slice(digits.as_bytes())
-}
 
 /// Adds a term.
 #[tactic(auto, unfolding(crate::specs::Printing::term_text))]

@@ -3,14 +3,14 @@
 use rss_names::{Key, Name, Seq, StageId};
 
 /// A number, or the value of a variable.
-#[derive(Clone, Copy, PartialEq, Eq)]
+#[derive(Clone, Copy)]
 pub enum Term<V> {
     Number(u64),
     Variable(V),
 }
 
 /// A term, or the sum or difference of two terms modulo 2^64.
-#[derive(Clone, Copy, PartialEq, Eq)]
+#[derive(Clone, Copy)]
 pub enum Expr<V> {
     One(Term<V>),
     Plus(Term<V>, Term<V>),
@@ -18,7 +18,7 @@ pub enum Expr<V> {
 }
 
 /// A comparison of two expressions.
-#[derive(Clone, Copy, PartialEq, Eq)]
+#[derive(Clone, Copy)]
 pub enum Compare<V> {
     Equal(Expr<V>, Expr<V>),
     Less(Expr<V>, Expr<V>),

@@ -5,6 +5,7 @@ use Rattle.std.specs.Bool.{Decides}
 use Rattle.std.proofs.lemmas.Bool.{false≢true, cases_lt}
 use Rattle.std.proofs.lemmas.Bool.Decides.{Decides-eqb, Decides-and, Decides-or, Decides-like}
 use Rattle.std.proofs.lemmas.Grind.{common_steps}
+use Rattle.rss_model.specs.Tokens.{same_token}
 use Rattle.rss_model.specs.declared.history.Entry.{Entry}
 use Rattle.rss_model.specs.declared.history.Entry.TheVariants.{Begin, End, Give, Get, Over}
 use Rattle.rss_model.specs.declared.history.Token.{Token}
@@ -14,7 +15,7 @@ use Rattle.rss_model.specs.History.{entry_at, ends, EndsAt}
 use Rattle.rss_model.specs.Stages.{entry_stage}
 use Rattle.rss_model.specs.Causality.{here, along, carried}
 use Rattle.rss_model.specs.Behind.{BehindPlace}
-use Rattle.plain_model.specs.Messages.{same_token, gets, carries, leads, leads_from, behind_from, behind}
+use Rattle.plain_model.specs.Messages.{gets, carries, leads, leads_from, behind_from, behind}
 
 itself : (b : Bool) → Decides b (b ≡ true)
 itself b = (λ t. t, λ t. t)

@@ -1,5 +1,6 @@
 -- Tests of what reaches a place of a history by messages.
 use Rattle.std.specs.Prelude.{ℕ, ◌||◌, ◌&&◌, ◌==◌, nat_le, Bool, false, List, [], ◌∷◌, ◌++◌, Option, Some, None}
+use Rattle.rss_model.specs.Tokens.{same_token}
 use Rattle.rss_model.specs.declared.op.Shown.{Shown}
 use Rattle.rss_model.specs.declared.history.Entry.{Entry}
 use Rattle.rss_model.specs.declared.history.Entry.TheVariants.{Begin, End, Give, Get, Over}
@@ -8,18 +9,6 @@ use Rattle.rss_model.specs.declared.history.Token.TheVariants.{Spawn, Chunk, Exi
 use Rattle.rss_model.specs.History.{begins, ends}
 use Rattle.rss_model.specs.Stages.{entry_stage}
 use Rattle.plain_model.specs.Found.{found_reply}
-
--- whether two tokens are the same
-abbrev pub same_token : Token → Token → Bool
-same_token (Spawn s) (Spawn t) = s == t
-same_token (Spawn s) (Chunk q n) = false
-same_token (Spawn s) (Exit t) = false
-same_token (Chunk p m) (Spawn t) = false
-same_token (Chunk p m) (Chunk q n) = (p == q) && (m == n)
-same_token (Chunk p m) (Exit t) = false
-same_token (Exit s) (Spawn t) = false
-same_token (Exit s) (Chunk q n) = false
-same_token (Exit s) (Exit t) = s == t
 
 -- whether an entry gets this token
 abbrev pub gets : Token → Entry → Bool

@@ -1,12 +1,12 @@
 //! Which calls are before which others by messages, and which read from which.
 
 ghost use Rattle.std.specs.Prelude.{◌≡◌, ◌≤◌, [], length, vec_len, IfOk};
-ghost use Rattle.plain_model.specs.Messages.{gets as gets_token, carries as carries_token, leads as leads_to, leads_from as leads_from_marked, behind as behind_places, begins_marked as begins_at_mark, names_writer as names_call, is_writer as has_written, names_in, same_token as is_same_token, generates as is_generated};
+ghost use Rattle.plain_model.specs.Messages.{gets as gets_token, carries as carries_token, leads as leads_to, leads_from as leads_from_marked, behind as behind_places, begins_marked as begins_at_mark, names_writer as names_call, is_writer as has_written, names_in, generates as is_generated};
 ghost use Rattle.plain_model.specs.Found.{found_reply};
 ghost use Rattle.rss_model.specs.Stages.{stage_of as stage_of_call, entry_stage as stage_of_entry};
 
 use crate::calls::{begins, ends, reply_of};
-use rss_model::{Entry, Shown, Token};
+use rss_model::{Entry, Shown, Token, is_same_token};
 use rss_names::CallId;
 use std::alloc::{AllocError, Global};
 
@@ -113,16 +113,9 @@ fn gets(entry: &Entry, token: &Token) -> bool
     ensures { result ≡ gets_token token.now entry.now }
 {
     match entry {
-        Entry::Get(_, got) => same_token(token, got),
+        Entry::Get(_, got) => is_same_token(token, got),
         _ => false,
     }
-}
-
-// Whether two tokens are the same.
-fn same_token(a: &Token, b: &Token) -> bool
-    ensures { result ≡ is_same_token a.now b.now }
-{
-    *a == *b
 }
 
 // The number of the stage of an entry: of an End, the stage that began its call, or else 0.

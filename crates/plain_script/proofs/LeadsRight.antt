@@ -7,13 +7,14 @@ use Rattle.std.proofs.lemmas.Bool.{false≢true}
 use Rattle.std.proofs.lemmas.Bool.Decides.{Decides-eqb, Decides-and}
 use Rattle.std.proofs.lemmas.List.Elements.{Contains-append_left, Contains-append_right, Contains-append_cases}
 use Rattle.pipeline_lang.specs.declared.config.Config.{Config}
+use Rattle.rss_model.specs.Tokens.{same_token}
 use Rattle.rss_model.specs.declared.history.Entry.{Entry}
 use Rattle.rss_model.specs.declared.history.Entry.TheVariants.{Begin, End, Give, Get, Over}
 use Rattle.rss_model.specs.declared.history.Token.TheVariants as token
 use Rattle.rss_model.specs.History.{entry_at}
 use Rattle.rss_model.specs.Stages.{stage_at}
 use Rattle.rss_model.specs.Walk.{Walk}
-use Rattle.script_laws.specs.Entries.{same_token, entry_step}
+use Rattle.script_laws.specs.Entries.{entry_step}
 use Rattle.script_laws.specs.Paths.{take_step}
 use Rattle.script_laws.specs.States.{IsTold, Leads, by_entry, by_take, Behind, passed, led}
 use Rattle.script_laws.proofs.EntrySteps.{token-Decides}

@@ -4,6 +4,7 @@ use Rattle.std.specs.List.{flat_map, range_with_len}
 use Rattle.std.specs.Option.{option_to_list}
 use Rattle.pipeline_lang.specs.declared.config.Config.{Config}
 use Rattle.pipeline_lang.specs.Config.{script_of}
+use Rattle.rss_model.specs.Tokens.{same_token}
 use Rattle.rss_model.specs.declared.history.Entry.{Entry}
 use Rattle.rss_model.specs.declared.history.Entry.TheVariants.{Begin, End, Give, Get, Over}
 use Rattle.rss_model.specs.declared.history.Token.{Token}
@@ -13,7 +14,7 @@ use Rattle.rss_model.specs.Stages.{stage_at}
 use Rattle.rss_model.specs.Scripts.{giver_of}
 use Rattle.rss_model.specs.Walk.{Walk, first_walk}
 use Rattle.script_laws.specs.Steps.{silent_step}
-use Rattle.script_laws.specs.Entries.{same_token, entry_step}
+use Rattle.script_laws.specs.Entries.{entry_step}
 use Rattle.script_laws.specs.Weights.{weigh}
 use Rattle.script_laws.specs.Paths.{tells, take_step}
 use Rattle.plain_script.specs.declared.told.Told.{Told}

@@ -7,8 +7,8 @@ ghost use Rattle.plain_script.specs.Standing.{is_got as is_taken, taken_by, lead
 use crate::told::Told;
 use crate::ways::states_at;
 use pipeline_lang::Config;
-use plain_walk::{StageWalk, entry_stage, entry_step, same_token, take_step};
-use rss_model::{Entry, Token};
+use plain_walk::{StageWalk, entry_stage, entry_step, take_step};
+use rss_model::{Entry, Token, is_same_token};
 use std::alloc::{AllocError, Global};
 
 // Whether a stage gets what was told.
@@ -17,7 +17,7 @@ fn is_got(stage: u8, one: Told, entry: &Entry) -> bool
 {
     match entry {
         Entry::Get(taker, token) => {
-            taker.number() == stage && same_token(token, &Token::Chunk(one.pipe, one.number))
+            taker.number() == stage && is_same_token(token, &Token::Chunk(one.pipe, one.number))
         }
         _ => false,
     }

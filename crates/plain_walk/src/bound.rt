@@ -8,9 +8,8 @@ ghost use Rattle.script_laws.specs.SameOps.{same_term, same_expr, same_compare};
 ghost use Rattle.pipeline_lang.specs.declared.script.Term.TheVariants as terms;
 ghost use Rattle.pipeline_lang.specs.declared.script.Expr.TheVariants as expressions;
 
-use crate::formulas::value_at;
 use pipeline_lang::{Compare, Expr, Term};
-use rss_model::Shown;
+use rss_model::{Shown, value_at};
 use rss_names::Key;
 
 // Where the transaction reads a variable itself, the position there.

@@ -3,7 +3,8 @@
 ghost use Rattle.std.specs.Prelude.{◌≡◌, ◌↔◌, IsTrue, map, IfOk};
 ghost use Rattle.rss_model.specs.Walk.{last_gives as gives_last, over_as as over_by};
 ghost use Rattle.rss_model.specs.ScriptRun.{NothingOrAll, IsWhole};
-ghost use Rattle.script_laws.specs.Entries.{same_token, paid};
+ghost use Rattle.rss_model.specs.Tokens.{same_token};
+ghost use Rattle.script_laws.specs.Entries.{paid};
 ghost use Rattle.plain_walk.specs.Walks.{token_of};
 
 use crate::walk::{Mode, Owed, StageWalk};

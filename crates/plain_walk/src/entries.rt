@@ -5,13 +5,14 @@ ghost use Rattle.std.specs.Option.{is_some};
 ghost use Rattle.rss_model.specs.declared.history.How.{How};
 ghost use Rattle.rss_model.specs.Walk.{next_given as next_number, is_alive as is_living};
 ghost use Rattle.rss_model.specs.declared.history.Token.TheVariants as tokens;
-ghost use Rattle.script_laws.specs.Entries.{same_token as is_same_token, next_statement as next_of, begun, ended, gave_at, given_in, born, waited, got, exited, ended_as, entry_step as entry_leads};
+ghost use Rattle.rss_model.specs.Tokens.{same_token};
+ghost use Rattle.script_laws.specs.Entries.{next_statement as next_of, begun, ended, gave_at, given_in, born, waited, got, exited, ended_as, entry_step as entry_leads};
 
-use crate::history::{gave, same_token, wait_status};
+use crate::history::{gave, wait_status};
 use crate::script::{NumberedStatement, next_statement, script_of};
 use crate::walk::{Mode, StageWalk};
 use pipeline_lang::{Config, Statement};
-use rss_model::{Entry, How, Op, Shown, Token};
+use rss_model::{Entry, How, Op, Shown, Token, is_same_token};
 use rss_names::CallId;
 use std::alloc::{AllocError, Global};
 
@@ -78,7 +79,7 @@ fn end(
 // The number of a token, if it is the next one that the stage gives to this pipe.
 fn next_chunk(walk: &StageWalk, pipe: u8, token: &Token) -> Option<u32>
     ensures given { is_some result ≡
-        is_same_token (tokens.Chunk pipe (next_number walk.now pipe)) token.now }
+        same_token (tokens.Chunk pipe (next_number walk.now pipe)) token.now }
     ensures number { IfSome result (λ number. number ≡ next_number walk.now pipe) }
 {
     match token {
@@ -105,7 +106,7 @@ fn give_at(
 {
     match statement {
         Statement::Spawn(child) => {
-            if same_token(&Token::Spawn(*child), token) {
+            if is_same_token(&Token::Spawn(*child), token) {
                 Ok(Some(walk.past_statement(alloc)?))
             } else {
                 Ok(None)

@@ -3,24 +3,17 @@
 ghost use Rattle.std.specs.Prelude.{◌≡◌};
 ghost use Rattle.rss_model.specs.Stages.{ending_of as over_how, entry_stage as stage_of_entry, stage_of as stage_of_call, wait_status as status_behind};
 ghost use Rattle.script_laws.specs.Steps.{gives_exit as exit_is_given, gave_exit as exit_was_given, is_dead as died_unfenced, gives_past as is_given_past, gave_past as was_given_past};
-ghost use Rattle.script_laws.specs.Entries.{same_token as is_same_token, gives as is_given, gave as was_given};
+ghost use Rattle.script_laws.specs.Entries.{gives as is_given, gave as was_given};
 
-use rss_model::{Entry, How, Token};
+use rss_model::{Entry, How, Token, is_same_token};
 use rss_names::CallId;
-
-/// Whether two tokens are the same.
-pub fn same_token(a: &Token, b: &Token) -> bool
-    ensures { result ≡ is_same_token a.now b.now }
-{
-    *a == *b
-}
 
 // Whether an entry gives a token.
 fn gives(token: &Token, entry: &Entry) -> bool
     ensures { result ≡ is_given token.now entry.now }
 {
     match entry {
-        Entry::Give(_, given) => same_token(given, token),
+        Entry::Give(_, given) => is_same_token(given, token),
         _ => false,
     }
 }

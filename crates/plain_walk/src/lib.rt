@@ -7,7 +7,6 @@ mod bound;
 mod endings;
 mod entries;
 mod first;
-mod formulas;
 mod history;
 mod operations;
 mod replies;
@@ -18,7 +17,7 @@ mod takes;
 mod walk;
 
 pub use entries::entry_step;
-pub use history::{entry_stage, same_token};
+pub use history::entry_stage;
 pub use script::giver_of;
 pub use silent::silent_step;
 pub use takes::{take_step, tells};

@@ -8,10 +8,9 @@ ghost use Rattle.rss_model.specs.declared.op.Op.TheVariants as op;
 ghost use Rattle.plain_walk.specs.Operations.{keys_of, bound_writes};
 
 use crate::bound::{is_comparison, is_expression};
-use crate::formulas::value_of;
 use crate::script::NumberedStatement;
 use pipeline_lang::{Expr, Statement};
-use rss_model::{Formula, Guard, Op};
+use rss_model::{Formula, Guard, Op, value_of};
 use rss_names::{Key, is_same_key};
 
 // Whether an operation reads this register.

@@ -8,12 +8,11 @@ ghost use Rattle.script_laws.specs.Entries.{is_op};
 ghost use Rattle.plain_walk.specs.Walks.{mode_of};
 ghost use Rattle.rss_model.specs.Walk.{past_statement, after_wait as behind_wait, after_take as behind_take, after_chunk as behind_chunk, after_put as behind_put, after_close as behind_close, next_given};
 
-use crate::formulas::{holds, value_of};
 use crate::operations::makes;
 use crate::script::{NumberedStatement, statements_to_end};
 use crate::walk::{Mode, StageWalk, set_at};
 use pipeline_lang::{Compare, Expr};
-use rss_model::Op;
+use rss_model::{Op, holds, value_of};
 use std::alloc::{AllocError, Global};
 
 impl StageWalk {

@@ -10,7 +10,7 @@ use rss_names::ServiceId;
 /// What a stage has seen that calls the registers of one service alone: the service that it used, and
 /// the dependency that its last call left. It stands in place. Contracts read the tables' context from
 /// it by `seen_of`.
-#[derive(Clone, Copy, PartialEq, Eq)]
+#[derive(Clone, Copy)]
 pub struct RegisterContext {
     pub used: Option<ServiceId>,
     pub dep: Option<Dep>,

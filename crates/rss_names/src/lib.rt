@@ -10,6 +10,7 @@ mod search;
 mod seq;
 mod service;
 mod steps;
+mod text;
 
 pub use attempt::Attempt;
 pub use ids::{CallId, ReplicaId, ShardId, StageId};
@@ -25,3 +26,4 @@ pub use search::{Times1, last_at_most};
 pub use seq::Seq;
 pub use service::{Key, ServiceId, Target};
 pub use steps::Steps;
+pub use text::put_number;

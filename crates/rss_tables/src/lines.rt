@@ -3,7 +3,7 @@
 use rss_wire::{Holder, Outcome};
 
 /// How far a line has come with its shard.
-#[derive(Clone, Copy, PartialEq, Eq)]
+#[derive(Clone, Copy)]
 pub enum LineState {
     /// The request of the phase was sent, and its reply is awaited.
     Awaiting,

@@ -15,7 +15,7 @@ pub enum RegWork {
 }
 
 /// How a register session ends.
-#[derive(Clone, Copy, PartialEq, Eq)]
+#[derive(Clone, Copy)]
 pub enum RegEnd {
     /// The dependencies are held by a majority.
     Fixed,
@@ -26,7 +26,7 @@ pub enum RegEnd {
 }
 
 /// The round under way.
-#[derive(Clone, Copy, PartialEq, Eq)]
+#[derive(Clone, Copy)]
 pub enum RegPhase {
     /// `Fix` was sent; ends when a majority has replied.
     Fixing,

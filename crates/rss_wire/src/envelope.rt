@@ -3,7 +3,7 @@
 use rss_names::{StageId, Target};
 
 /// The outside of a message.
-#[derive(Clone, Copy, PartialEq, Eq)]
+#[derive(Clone, Copy)]
 pub struct Envelope {
     /// Messages are numbered from 1 in the order sent.
     pub number: u32,

@@ -36,7 +36,7 @@ pub struct Skipped {
 }
 
 /// What a replica holds of a register: a value, its stamp, and the call that wrote it.
-#[derive(Clone, Copy, PartialEq, Eq)]
+#[derive(Clone, Copy)]
 pub struct RegReply {
     pub value: u64,
     pub stamp: Carstamp,
@@ -249,7 +249,7 @@ impl Drop for Reply {
 }
 
 /// How far a session has come.
-#[derive(Clone, Copy, PartialEq, Eq)]
+#[derive(Clone, Copy)]
 pub enum Progress {
     /// Replies are awaited.
     Going,

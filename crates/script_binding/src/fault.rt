@@ -21,7 +21,7 @@ pub enum ScriptFaultKind {
 
 /// What is wrong with one statement, and the token that shows it. Tokens are counted from 0 at the
 /// statement's first word.
-#[derive(Clone, Copy, PartialEq, Eq)]
+#[derive(Clone, Copy)]
 pub struct Refusal {
     pub kind: ScriptFaultKind,
     pub token: u64,

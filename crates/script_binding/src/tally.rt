@@ -16,7 +16,7 @@ const MOST_CALLS: u128 = 20_000;
 
 /// Sums over the first stages of a file: the statements that they execute, and their calls, fence
 /// statements and stages together. A statement counts once for each turn of the repeats round it.
-#[derive(Clone, Copy, PartialEq, Eq)]
+#[derive(Clone, Copy)]
 pub struct Tally {
     pub statements: u32,
     pub calls: u32,

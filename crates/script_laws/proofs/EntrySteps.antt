@@ -7,6 +7,7 @@ use Rattle.std.proofs.lemmas.Bool.Decides.{Decides-eqb, Decides-and, Decides-or,
 use Rattle.pipeline_lang.specs.declared.config.Config.{Config}
 use Rattle.pipeline_lang.specs.declared.script.Statement.TheVariants as statement
 use Rattle.pipeline_lang.specs.Config.{statement_at}
+use Rattle.rss_model.specs.Tokens.{same_token}
 use Rattle.rss_model.specs.declared.op.Op.{Op}
 use Rattle.rss_model.specs.declared.op.Shown.{Shown}
 use Rattle.rss_model.specs.declared.history.Entry.{Entry}
@@ -24,7 +25,7 @@ use Rattle.rss_model.specs.Walk.{Walk, Mode, unborn, ready, in_call, over, is_al
 use Rattle.rss_model.specs.Given.{GivenAbove}
 use Rattle.rss_model.specs.Walked.{Makes, birth, begin_call, end_call, spawn, put, close, wait, exit, death, last_give}
 use Rattle.script_laws.specs.SameOps.{same_op}
-use Rattle.script_laws.specs.Entries.{same_token, gives, gave, next_in, next_statement, is_op, begun, ended, gave_at, paid, given_in, born, waited, got, exited, ended_as, entry_step}
+use Rattle.script_laws.specs.Entries.{gives, gave, next_in, next_statement, is_op, begun, ended, gave_at, paid, given_in, born, waited, got, exited, ended_as, entry_step}
 use Rattle.script_laws.proofs.SameOperations.{op-Decides}
 
 pub token-Decides : (a b : Token) → Decides (same_token a b) (a ≡ b)

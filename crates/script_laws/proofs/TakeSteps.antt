@@ -5,6 +5,7 @@ use Rattle.std.proofs.lemmas.Bool.Decides.{Decides-eqb, Decides-and}
 use Rattle.pipeline_lang.specs.declared.config.Config.{Config}
 use Rattle.pipeline_lang.specs.declared.script.Statement.TheVariants as statement
 use Rattle.pipeline_lang.specs.Config.{statement_at}
+use Rattle.rss_model.specs.Tokens.{same_token}
 use Rattle.rss_model.specs.declared.history.Entry.{Entry}
 use Rattle.rss_model.specs.declared.history.Token.TheVariants as token
 use Rattle.rss_model.specs.Formula.{formula_value}
@@ -13,7 +14,7 @@ use Rattle.rss_model.specs.Scripts.{giver_of}
 use Rattle.rss_model.specs.Walk.{Walk, Mode, unborn, ready, in_call, over, IsNext, next_given, after_chunk}
 use Rattle.rss_model.specs.Given.{Puts, Marks, by_close, when_over}
 use Rattle.rss_model.specs.Walked.{Takes, chunk, end_mark}
-use Rattle.script_laws.specs.Entries.{same_token, next_statement}
+use Rattle.script_laws.specs.Entries.{next_statement}
 use Rattle.script_laws.specs.Paths.{tells_at, tells_in, tells, took, takes_at, take_step}
 use Rattle.script_laws.proofs.EntrySteps.{token-Decides, taken_if, chosen_if, next-to, next-from}
 

@@ -3,6 +3,7 @@ use Rattle.std.specs.Prelude.{ℕ, ◌||◌, ◌&&◌, ◌==◌, Bool, false, Li
 use Rattle.pipeline_lang.specs.declared.config.Config.{Config}
 use Rattle.pipeline_lang.specs.declared.script.Statement.TheVariants as statement
 use Rattle.pipeline_lang.specs.Config.{statement_at}
+use Rattle.rss_model.specs.Tokens.{same_token}
 use Rattle.rss_model.specs.declared.op.Op.{Op}
 use Rattle.rss_model.specs.declared.op.Shown.{Shown}
 use Rattle.rss_model.specs.declared.history.Entry.{Entry}
@@ -17,18 +18,6 @@ use Rattle.rss_model.specs.Cursor.{NumberedStatement}
 use Rattle.rss_model.specs.CallStatement.{op_of_statement}
 use Rattle.script_laws.specs.SameOps.{same_op}
 use Rattle.rss_model.specs.Walk.{Walk, Mode, unborn, ready, in_call, over, is_alive, next_given, past_statement, after_put, after_close, after_reply, after_wait, over_as}
-
--- whether two tokens are the same
-abbrev pub same_token : Token → Token → Bool
-same_token (token.Spawn s) (token.Spawn t) = s == t
-same_token (token.Spawn s) (token.Chunk q n) = false
-same_token (token.Spawn s) (token.Exit t) = false
-same_token (token.Chunk p m) (token.Spawn t) = false
-same_token (token.Chunk p m) (token.Chunk q n) = (p == q) && (m == n)
-same_token (token.Chunk p m) (token.Exit t) = false
-same_token (token.Exit s) (token.Spawn t) = false
-same_token (token.Exit s) (token.Chunk q n) = false
-same_token (token.Exit s) (token.Exit t) = s == t
 
 -- whether an entry gives this token
 abbrev pub gives : Token → Entry → Bool

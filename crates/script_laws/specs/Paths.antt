@@ -3,6 +3,7 @@ use Rattle.std.specs.Prelude.{◌≡◌, ℕ, ◌+◌, ◌==◌, ◌&&◌, List,
 use Rattle.pipeline_lang.specs.declared.config.Config.{Config}
 use Rattle.pipeline_lang.specs.declared.script.Statement.TheVariants as statement
 use Rattle.pipeline_lang.specs.Config.{statement_at}
+use Rattle.rss_model.specs.Tokens.{same_token}
 use Rattle.rss_model.specs.declared.history.Entry.{Entry}
 use Rattle.rss_model.specs.declared.history.Token.{Token}
 use Rattle.rss_model.specs.declared.history.Token.TheVariants as token
@@ -10,7 +11,7 @@ use Rattle.rss_model.specs.Formula.{formula_value}
 use Rattle.rss_model.specs.Cursor.{NumberedStatement}
 use Rattle.rss_model.specs.Walk.{Walk, Mode, unborn, ready, in_call, over, next_given, after_take, after_chunk}
 use Rattle.script_laws.specs.Steps.{silent_step}
-use Rattle.script_laws.specs.Entries.{same_token, next_statement}
+use Rattle.script_laws.specs.Entries.{next_statement}
 
 -- a walk can come to a state without an entry
 pub data Path (config : Config) (h : List Entry) (stage : ℕ) (to : Walk) : Walk → Type 0 where

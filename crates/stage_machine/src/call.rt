@@ -9,7 +9,7 @@ use rss_names::{Key, ServiceId};
 use rss_tables::RegWork;
 
 /// A call of a stage at a register.
-#[derive(Clone, Copy, PartialEq, Eq)]
+#[derive(Clone, Copy)]
 pub enum StageCall {
     /// Reads a register.
     Read(Key),

@@ -2,7 +2,6 @@
 #![tactic(auto)]
 
 mod call;
-mod formulas;
 mod laws;
 mod next;
 mod stage;

@@ -9,7 +9,7 @@ use pipeline_lang::{Config, Expr, Statement};
 use rss_names::{Key, StageId};
 
 /// What a stage does next, of the statements of a script that calls registers alone.
-#[derive(Clone, Copy, PartialEq, Eq)]
+#[derive(Clone, Copy)]
 pub enum Next {
     /// Sets a variable.
     Let(u8, Expr<u8>),

@@ -16,12 +16,11 @@ ghost use Rattle.stage_machine.specs.Calls.{op_of_call};
 ghost use Rattle.stage_machine.specs.Next.{statement_of, goes_on, with_shown};
 
 use crate::call::StageCall;
-use crate::formulas::value_of;
 use crate::next::Next;
 use pipeline_lang::Expr;
 use register_context::RegisterContext;
 use rss_machine::{Life, StageState};
-use rss_model::How;
+use rss_model::{How, value_of};
 use rss_tables::StubEnd;
 use std::alloc::{AllocError, Global};
 use std::marker::Model;

@@ -6,10 +6,10 @@ ghost use Rattle.step_text.specs.Lines.{stage_at, message_at, act_at, go_at, los
 
 use crate::number::{number_of, skip_word};
 use rss_machine::StepKind;
-use rss_names::StageId;
+use rss_names::{MOST_STAGES, StageId};
 
 /// The greatest number of a stage.
-const STAGES: u64 = 16;
+const STAGES: u64 = MOST_STAGES as u64;
 
 /// The greatest number of a message.
 const MESSAGES: u64 = (1 << 32) - 1;

@@ -6,6 +6,7 @@ ghost use Rattle.rss_machine.specs.Run.{steps_of};
 ghost use Rattle.step_text.specs.Spelling.{kind_text, clock_text, line_of, text_of};
 
 use rss_machine::{Logged, Step, StepKind};
+use rss_names::put_number;
 use std::alloc::{AllocError, Global};
 use truetime::Interval;
 
@@ -19,8 +20,7 @@ fn put_numbered(
     ensures { OnOk result (text.new.items ≡ text.old.items ++ (word.now ++ decimal number)) }
 {
     text.extend_from_slice(word)?;
-    let digits = number.to_string(alloc)?;
-    text.extend_from_slice(digits.as_bytes())
+    put_number(alloc, text, number)
 }
 
 /// Adds what a step does.

@@ -9,7 +9,7 @@ use thiserror::Error;
 
 /// The greatest `earliest` of the readings admitted so far: the true moment, in microseconds below
 /// 2^62.
-#[derive(Clone, Copy, PartialEq, Eq)]
+#[derive(Clone, Copy)]
 pub struct Moments {
     greatest: u64,
 }

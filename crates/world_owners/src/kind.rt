@@ -3,7 +3,7 @@
 use stage_machine::StageCall;
 
 /// What an owner does.
-#[derive(Clone, Copy, PartialEq, Eq)]
+#[derive(Clone, Copy)]
 pub enum Kind {
     /// A call of a register.
     Call(StageCall),
