@@ -15,9 +15,9 @@ use Rattle.pipeline_tables.specs.declared.tables.ServiceKind.TheVariants.{Txn, R
 use Rattle.pipeline_tables.specs.Faults.{◌>>=◌, key_place, fault}
 use Rattle.pipeline_tables.specs.Keys.{only_keys, value_at}
 use Rattle.pipeline_tables.specs.Values.{or_default, name_at, replicas_or}
-use Rattle.pipeline_tables.specs.Lists.{some_items, some_members, names_of, so_many, name_list, names_or_none, item_count, all_tables, tables_in, tables_of, tables_at, tables_or_none, row_in, rows_from}
+use Rattle.pipeline_tables.specs.Lists.{some_items, some_members, names_of, so_many, name_list, names_or_none, item_count, all_tables, tables_in, tables_of, tables_or_none, row_in}
 use Rattle.pipeline_tables.specs.Rows.{most_registers, kind_at, root_of, shard_of, pipe_of, stage_of, withhold_of, kill_of, service_of}
-use Rattle.pipeline_tables.specs.Services.{services_from, array_place, tables_said}
+use Rattle.pipeline_tables.specs.Services.{services_from, array_place, rows_or_none, rows_at, further_services, tables_said}
 use Rattle.file_laws.proofs.Each.{Each}
 use Rattle.file_laws.proofs.Went.{ok_same, went, went_onto, after}
 
@@ -120,20 +120,20 @@ at_most few most ts l f = record { few = omega (arith, l, f.few); bare = f.bare 
 abbrev HasFew : FileTables → Type 0
 HasFew t = AreFew 6 t.services
 
+-- the services that an array says
+further_few : (root : RootTable) (keyed : Members) (ts : List ServiceTable) → further_services root keyed ≡ Ok ts → AreFew 6 ts
+unfolding further_services
+further_few root keyed ts h =
+    let items = went (tables_or_none 6 (array_place key.Service) keyed) (services_from root (array_place key.Service) (64 - length root.registers) 1) ts h in
+    at_most (item_count items.0) 6 ts (few_tables 6 (array_place key.Service) keyed items.0 items.1.0) (services_few root (array_place key.Service) (64 - length root.registers) 1 items.0 ts items.1.1)
+
 pub tables_few : (keyed : Members) (t : FileTables) → tables_said keyed ≡ Ok t → HasFew t
 unfolding tables_said
 tables_few keyed t = after HasFew t (root_of keyed) _ (λ root _.
-    after HasFew t (tables_or_none 16 (array_place key.Shard) keyed) _ (λ shard_items _.
-    after HasFew t (rows_from (shard_of root) (array_place key.Shard) 1 shard_items) _ (λ shards _.
-    after HasFew t (tables_or_none 16 (array_place key.Pipe) keyed) _ (λ pipe_items _.
-    after HasFew t (rows_from (pipe_of root) (array_place key.Pipe) 1 pipe_items) _ (λ pipes _.
-    after HasFew t (tables_at 1 16 (array_place key.Stage) keyed) _ (λ stage_items _.
-    after HasFew t (rows_from (stage_of root) (array_place key.Stage) 1 stage_items) _ (λ stages _.
-    after HasFew t (tables_or_none 64 (array_place key.Withhold) keyed) _ (λ withhold_items _.
-    after HasFew t (rows_from (withhold_of root) (array_place key.Withhold) 1 withhold_items) _ (λ withholds _.
-    after HasFew t (tables_or_none 16 (array_place key.Kill) keyed) _ (λ kill_items _.
-    after HasFew t (rows_from (kill_of root) (array_place key.Kill) 1 kill_items) _ (λ kills _.
-    after HasFew t (tables_or_none 6 (array_place key.Service) keyed) _ (λ service_items few.
-    after HasFew t (services_from root (array_place key.Service) (64 - length root.registers) 1 service_items) _ (λ services said made.
-    subst HasFew (ok_same _ t made)
-    (at_most (item_count service_items) 6 services (few_tables 6 (array_place key.Service) keyed service_items few) (services_few root (array_place key.Service) (64 - length root.registers) 1 service_items services said)))))))))))))))
+    after HasFew t (rows_or_none (shard_of root) 16 key.Shard keyed) _ (λ shards _.
+    after HasFew t (rows_or_none (pipe_of root) 16 key.Pipe keyed) _ (λ pipes _.
+    after HasFew t (rows_at (stage_of root) 16 key.Stage keyed) _ (λ stages _.
+    after HasFew t (rows_or_none (withhold_of root) 64 key.Withhold keyed) _ (λ withholds _.
+    after HasFew t (rows_or_none (kill_of root) 16 key.Kill keyed) _ (λ kills _.
+    after HasFew t (further_services root keyed) _ (λ services said made.
+    subst HasFew (ok_same _ t made) (further_few root keyed services said))))))))

@@ -1,5 +1,5 @@
 -- the shards of a document: at most sixteen, a service for each, and one of them is the home of each key
-use Rattle.std.proofs.Common.{◌≡◌, ℕ, suc, ◌+◌, ◌-◌, ◌≤◌, List, [], ◌∷◌, length, Result, Ok, ap, sym, subst, ◌∙◌, arith}
+use Rattle.std.proofs.Common.{◌≡◌, ℕ, suc, ◌+◌, ◌≤◌, List, [], ◌∷◌, length, Result, Ok, ap, sym, subst, ◌∙◌, arith}
 use Rattle.toml.specs.Data.{Items, no_items, item, Members}
 use Rattle.pipeline_tables.specs.declared.fault.FileKey.TheVariants as key
 use Rattle.pipeline_tables.specs.declared.fault.FileFault.{FileFault}
@@ -7,9 +7,9 @@ use Rattle.pipeline_tables.specs.declared.fault.Place.{Place}
 use Rattle.pipeline_tables.specs.declared.tables.FileTables.{FileTables}
 use Rattle.pipeline_tables.specs.declared.tables.RootTable.{RootTable}
 use Rattle.pipeline_tables.specs.declared.tables.ShardTable.{ShardTable}
-use Rattle.pipeline_tables.specs.Lists.{item_count, tables_at, tables_or_none, row_in, rows_from}
+use Rattle.pipeline_tables.specs.Lists.{item_count, tables_or_none, row_in, rows_from}
 use Rattle.pipeline_tables.specs.Rows.{root_of, shard_of, pipe_of, stage_of, withhold_of, kill_of}
-use Rattle.pipeline_tables.specs.Services.{services_from, array_place, tables_said}
+use Rattle.pipeline_tables.specs.Services.{array_place, rows_or_none, rows_at, further_services, tables_said}
 use Rattle.pipeline_file.specs.declared.resolve.Known.{Known}
 use Rattle.pipeline_file.specs.declared.resolve.Resolved.{Resolved}
 use Rattle.pipeline_file.specs.Resolve.{shard_service, pipe_ends, withhold_said, kill_said, each_from, no_loops, resolved_of}
@@ -31,26 +31,22 @@ rows_many says at n (item value items) rows h =
 abbrev pub HasFewShards : FileTables → Type 0
 HasFewShards t = length t.shards ≤ 16
 
-few_rows : (root : RootTable) (keyed : Members) (items : Items) (shards : List ShardTable) → tables_or_none 16 (array_place key.Shard) keyed ≡ Ok items → rows_from (shard_of root) (array_place key.Shard) 1 items ≡ Ok shards → length shards ≤ 16
-few_rows root keyed items shards few said =
-    subst (λ (n : ℕ). n ≤ 16) (sym (rows_many (shard_of root) (array_place key.Shard) 1 items shards said)) (few_tables 16 (array_place key.Shard) keyed items few)
+few_rows : (root : RootTable) (keyed : Members) (shards : List ShardTable) → rows_or_none (shard_of root) 16 key.Shard keyed ≡ Ok shards → length shards ≤ 16
+unfolding rows_or_none
+few_rows root keyed shards h =
+    let items = went (tables_or_none 16 (array_place key.Shard) keyed) (rows_from (shard_of root) (array_place key.Shard) 1) shards h in
+    subst (λ (n : ℕ). n ≤ 16) (sym (rows_many (shard_of root) (array_place key.Shard) 1 items.0 shards items.1.1)) (few_tables 16 (array_place key.Shard) keyed items.0 items.1.0)
 
 pub shards_few : (keyed : Members) (t : FileTables) → tables_said keyed ≡ Ok t → HasFewShards t
 unfolding tables_said
 shards_few keyed t = after HasFewShards t (root_of keyed) _ (λ root _.
-    after HasFewShards t (tables_or_none 16 (array_place key.Shard) keyed) _ (λ shard_items few.
-    after HasFewShards t (rows_from (shard_of root) (array_place key.Shard) 1 shard_items) _ (λ shards said.
-    after HasFewShards t (tables_or_none 16 (array_place key.Pipe) keyed) _ (λ pipe_items _.
-    after HasFewShards t (rows_from (pipe_of root) (array_place key.Pipe) 1 pipe_items) _ (λ pipes _.
-    after HasFewShards t (tables_at 1 16 (array_place key.Stage) keyed) _ (λ stage_items _.
-    after HasFewShards t (rows_from (stage_of root) (array_place key.Stage) 1 stage_items) _ (λ stages _.
-    after HasFewShards t (tables_or_none 64 (array_place key.Withhold) keyed) _ (λ withhold_items _.
-    after HasFewShards t (rows_from (withhold_of root) (array_place key.Withhold) 1 withhold_items) _ (λ withholds _.
-    after HasFewShards t (tables_or_none 16 (array_place key.Kill) keyed) _ (λ kill_items _.
-    after HasFewShards t (rows_from (kill_of root) (array_place key.Kill) 1 kill_items) _ (λ kills _.
-    after HasFewShards t (tables_or_none 6 (array_place key.Service) keyed) _ (λ service_items _.
-    after HasFewShards t (services_from root (array_place key.Service) (64 - length root.registers) 1 service_items) _ (λ services _ made.
-    subst HasFewShards (ok_same _ t made) (few_rows root keyed shard_items shards few said))))))))))))))
+    after HasFewShards t (rows_or_none (shard_of root) 16 key.Shard keyed) _ (λ shards said.
+    after HasFewShards t (rows_or_none (pipe_of root) 16 key.Pipe keyed) _ (λ pipes _.
+    after HasFewShards t (rows_at (stage_of root) 16 key.Stage keyed) _ (λ stages _.
+    after HasFewShards t (rows_or_none (withhold_of root) 64 key.Withhold keyed) _ (λ withholds _.
+    after HasFewShards t (rows_or_none (kill_of root) 16 key.Kill keyed) _ (λ kills _.
+    after HasFewShards t (further_services root keyed) _ (λ services _ made.
+    subst HasFewShards (ok_same _ t made) (few_rows root keyed shards said))))))))
 
 -- as many meanings as rows
 meanings_many : {A B : Type 0} (means : ℕ → A → Result B FileFault) (n : ℕ) (rows : List A) (meanings : List B) → each_from means n rows ≡ Ok meanings → length meanings ≡ length rows

@@ -170,27 +170,36 @@ fn gather<T: Declares>(list: &mut Seq<Declaration>, rows: &[T]) -> Result<(), Al
     Ok(())
 }
 
-/// All that a file declares, each kind in file order.
+/// Adds all that a file declares, each kind in file order, to an empty list.
 #[tactic(auto, unfolding(crate::specs::Declarations::declarations))]
+fn add_declarations(list: &mut Seq<Declaration>, tables: &FileTables) -> Result<(), AllocError>
+    requires empty { list.old ≡ [] }
+    requires few { HasLimits tables.now }
+    ensures { OnOk result (list.new ≡ declarations tables.now) }
+{
+    let nowhere = Place::key(Table::File, 0, FileKey::Absent);
+    declare(list, NameKind::Service, nowhere, txn_name())?;
+    declare(list, NameKind::Service, nowhere, reg_name())?;
+    let registers = Place::key(Table::Root, 0, FileKey::Registers);
+    declare_all(
+        list,
+        NameKind::Register,
+        registers,
+        tables.root.registers.as_slice(),
+    )?;
+    gather(list, tables.services.as_slice())?;
+    gather(list, tables.shards.as_slice())?;
+    gather(list, tables.pipes.as_slice())?;
+    gather(list, tables.stages.as_slice())?;
+    gather(list, tables.kills.as_slice())
+}
+
+/// All that a file declares, each kind in file order.
 pub fn declarations(alloc: Global, tables: &FileTables) -> Result<Seq<Declaration>, AllocError>
     requires few { HasLimits tables.now }
     ensures { IfOk result (λ list. list ≡ declarations tables.now) }
 {
     let mut list = Seq::new(alloc);
-    let nowhere = Place::key(Table::File, 0, FileKey::Absent);
-    declare(&mut list, NameKind::Service, nowhere, txn_name())?;
-    declare(&mut list, NameKind::Service, nowhere, reg_name())?;
-    let registers = Place::key(Table::Root, 0, FileKey::Registers);
-    declare_all(
-        &mut list,
-        NameKind::Register,
-        registers,
-        tables.root.registers.as_slice(),
-    )?;
-    gather(&mut list, tables.services.as_slice())?;
-    gather(&mut list, tables.shards.as_slice())?;
-    gather(&mut list, tables.pipes.as_slice())?;
-    gather(&mut list, tables.stages.as_slice())?;
-    gather(&mut list, tables.kills.as_slice())?;
+    add_declarations(&mut list, tables)?;
     Ok(list)
 }

@@ -3,9 +3,10 @@
 ghost use Rattle.std.specs.Prelude.{◌≡◌, [], None, IfOk};
 ghost use Rattle.pipeline_tables.specs.Faults.{Tells};
 ghost use Rattle.pipeline_tables.specs.Limits.{HasLimits};
+ghost use Rattle.pipeline_file.specs.declared.declaration.NameKind.TheVariants.{Register, Key, Pipe};
 ghost use Rattle.pipeline_file.specs.declared.declaration.NameSet.TheVariants.{Shared};
 ghost use Rattle.pipeline_file.specs.Declarations.{declarations};
-ghost use Rattle.pipeline_file.specs.Doubles.{first_double};
+ghost use Rattle.pipeline_file.specs.Doubles.{first_double, names_of};
 ghost use Rattle.pipeline_file.specs.Document.{assembled};
 ghost use Rattle.pipeline_file.specs.NameTables.{all_declared, declared_of};
 
@@ -85,6 +86,53 @@ impl Declared {
     }
 }
 
+/// The tables of names that stand beside the known ones.
+#[derive(Drop)]
+struct NameParts {
+    registers: NameTable,
+    keys: NameTable,
+    pipes: NameTable,
+}
+
+/// What other tables refer to.
+#[tactic(auto, unfolding(crate::specs::NameTables::all_declared))]
+fn known_names(
+    alloc: Global,
+    tables: &FileTables,
+    list: &[Declaration],
+) -> Result<Known, AllocError>
+    requires few { HasLimits tables.now }
+    requires all { list.now ≡ declarations tables.now }
+    requires alone { first_double Shared [] list.now ≡ None }
+    ensures { IfOk result (λ known. known ≡ (all_declared tables.now).known) }
+{
+    let services = services(alloc, tables)?;
+    let shards = table_of(alloc, list, NameKind::Shard)?;
+    let stages = table_of(alloc, list, NameKind::Stage)?;
+    Ok(Known {
+        services,
+        shards,
+        stages,
+    })
+}
+
+/// The tables of registers, keys and pipes.
+fn name_parts(alloc: Global, list: &[Declaration]) -> Result<NameParts, AllocError>
+    requires alone { first_double Shared [] list.now ≡ None }
+    ensures registers { IfOk result (λ parts. parts.registers ≡ names_of Register list.now) }
+    ensures keys { IfOk result (λ parts. parts.keys ≡ names_of Key list.now) }
+    ensures pipes { IfOk result (λ parts. parts.pipes ≡ names_of Pipe list.now) }
+{
+    let registers = table_of(alloc, list, NameKind::Register)?;
+    let keys = table_of(alloc, list, NameKind::Key)?;
+    let pipes = table_of(alloc, list, NameKind::Pipe)?;
+    Ok(NameParts {
+        registers,
+        keys,
+        pipes,
+    })
+}
+
 /// What a file declares, where no shared name is declared twice.
 #[tactic(auto, unfolding(crate::specs::NameTables::all_declared))]
 fn all_declared(
@@ -97,16 +145,14 @@ fn all_declared(
     requires alone { first_double Shared [] list.now ≡ None }
     ensures { IfOk result (λ declared. declared ≡ all_declared tables.now) }
 {
-    let known = Known {
-        services: services(alloc, tables)?,
-        shards: table_of(alloc, list, NameKind::Shard)?,
-        stages: table_of(alloc, list, NameKind::Stage)?,
-    };
-    let registers = table_of(alloc, list, NameKind::Register)?;
     let register_services = register_services(alloc, tables)?;
-    let keys = table_of(alloc, list, NameKind::Key)?;
     let homes = homes(alloc, tables.shards.as_slice())?;
-    let pipes = table_of(alloc, list, NameKind::Pipe)?;
+    let known = known_names(alloc, tables, list)?;
+    let NameParts {
+        registers,
+        keys,
+        pipes,
+    } = name_parts(alloc, list)?;
     Ok(Declared {
         known,
         registers,

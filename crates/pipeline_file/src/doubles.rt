@@ -68,16 +68,15 @@ fn belongs(names: NameSet, kind: NameKind) -> bool
     }
 }
 
-/// The place of the first declaration of a set whose name stands before it.
+/// The place of the first declaration of a set whose name was seen or stands before it.
 #[tactic(auto, using(crate::proofs::Distinct::first_double_drop), unfolding(crate::specs::Doubles::first_double))]
-fn first_double(
-    alloc: Global,
+fn first_seen(
+    seen: &mut Seen,
     names: NameSet,
     declarations: &[Declaration],
 ) -> Result<Option<Place>, AllocError>
-    ensures { IfOk result (λ place. place ≡ first_double names [] declarations.now) }
+    ensures { IfOk result (λ place. place ≡ first_double names seen.old declarations.now) }
 {
-    let mut seen = Seen::new(alloc);
     for declaration in declarations {
         if belongs(names, declaration.kind) {
             if seen.has(&declaration.name) {
@@ -87,6 +86,18 @@ fn first_double(
         }
     }
     Ok(None)
+}
+
+/// The place of the first declaration of a set whose name stands before it.
+fn first_double(
+    alloc: Global,
+    names: NameSet,
+    declarations: &[Declaration],
+) -> Result<Option<Place>, AllocError>
+    ensures { IfOk result (λ place. place ≡ first_double names [] declarations.now) }
+{
+    let mut seen = Seen::new(alloc);
+    first_seen(&mut seen, names, declarations)
 }
 
 /// Tests that no name of a set is declared twice.

@@ -13,7 +13,10 @@ use pipeline_tables::{
     FaultKind, FileError, FileFault, FileKey, FileTables, KillTable, PipeTable, Place, ServiceKind,
     ShardTable, Table, TargetName, WithholdTable,
 };
-use rss_names::{Name, ReplicaId, Seq, ServiceId, ShardId, StageId, Target};
+use rss_names::{
+    MOST_REPLICAS, MOST_SHARDS, MOST_STAGES, Name, ReplicaId, Seq, ServiceId, ShardId, StageId,
+    Target,
+};
 use std::alloc::Global;
 
 /// What names are looked up in.
@@ -103,7 +106,7 @@ fn stage_named(stages: &NameTable, place: Place, name: &Name) -> Result<StageId,
 {
     match stages.position(name) {
         Some(position) => {
-            if position < 16 {
+            if position < MOST_STAGES as u16 {
                 Ok(StageId::new(position as u8 + 1).unwrap())
             } else {
                 Err(place.fault(FaultKind::UnknownName))
@@ -120,7 +123,7 @@ fn shard_named(shards: &NameTable, place: Place, name: &Name) -> Result<ShardId,
 {
     match shards.position(name) {
         Some(position) => {
-            if position < 16 {
+            if position < MOST_SHARDS as u16 {
                 Ok(ShardId::new(position as u8 + 1).unwrap())
             } else {
                 Err(place.fault(FaultKind::UnknownName))
@@ -211,7 +214,7 @@ fn replica_named(
         Some(service) => {
             if is_of(ServiceKind::Reg, service.id)
                 && number >= 1
-                && number <= 7
+                && number <= MOST_REPLICAS
                 && number <= service.replicas
             {
                 Ok(Target::Replica(service.id, ReplicaId::new(number).unwrap()))
@@ -330,11 +333,12 @@ pub fn resolve_names(
     let pipe_ends = resolve_all(alloc, known, tables.pipes.as_slice())?;
     let withholds = resolve_all(alloc, known, tables.withholds.as_slice())?;
     let kills = resolve_all(alloc, known, tables.kills.as_slice())?;
-    check_loops(pipe_ends.as_slice())?;
-    Ok(Resolved {
+    let resolved = Resolved {
         shard_services,
         pipe_ends,
         withholds,
         kills,
-    })
+    };
+    check_loops(resolved.pipe_ends.as_slice())?;
+    Ok(resolved)
 }

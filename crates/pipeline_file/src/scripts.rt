@@ -1,11 +1,11 @@
 //! The scripts of a file.
 
-ghost use Rattle.std.specs.Prelude.{◌≡◌, ◌≤◌, [], length, IfOk, IsTrue};
+ghost use Rattle.std.specs.Prelude.{◌≡◌, ◌≤◌, [], length, IfOk, IfErr, OnOk, Ok, IsTrue};
 ghost use Rattle.pipeline_lang.specs.Scripts.{script_of};
 ghost use Rattle.script_binding.specs.Naming.{naming};
 ghost use Rattle.script_binding.specs.Outcome.{outcome};
 ghost use Rattle.script_binding.specs.Counts.{nothing};
-ghost use Rattle.pipeline_tables.specs.Faults.{Tells};
+ghost use Rattle.pipeline_tables.specs.Faults.{Tells, IsFault};
 ghost use Rattle.pipeline_file.specs.Scripts.{script_place, kind_of, syntax, bound_or, naming_of, script_said, bodies_from, sums_from, bodies_of};
 
 use crate::declared_names::Declared;
@@ -122,7 +122,36 @@ fn script_of_stage(
     script
 }
 
-/// What the stages run: stage by stage the script is read and bound.
+/// Adds what the stages run to an empty list: stage by stage the script is read and bound, and what
+/// it spawns is noted.
+fn add_bodies(
+    alloc: Global,
+    declared: &Declared,
+    resolved: &Resolved,
+    stages: &[StageTable],
+    bodies: &mut Seq<Body>,
+    spawned: &mut Seq<StageId>,
+) -> Result<(), FileError>
+    requires few { length stages.now ≤ 16 }
+    requires none { bodies.old ≡ [] }
+    requires unspawned { spawned.old ≡ [] }
+    ensures read { OnOk result (bodies_from declared.now resolved.now 1 [] stages.now ≡ Ok bodies.new) }
+    ensures refused { IfErr result (λ e. IsFault e (bodies_from declared.now resolved.now 1 [] stages.now)) }
+    ensures each { OnOk result (length bodies.new ≡ length stages.now) }
+{
+    for (index, stage) in stages.iter().enumerate() {
+        let number = index as u8 + 1;
+        let script = script_of_stage(alloc, declared, resolved, number, spawned, stage)?;
+        add_spawned(spawned, &script)?;
+        bodies.push(Body {
+            script,
+            earliest_end: stage.earliest_end,
+        })?;
+    }
+    Ok(())
+}
+
+/// What the stages run.
 fn bodies(
     alloc: Global,
     declared: &Declared,
@@ -135,15 +164,7 @@ fn bodies(
 {
     let mut bodies = Seq::new(alloc);
     let mut spawned = Seq::new(alloc);
-    for (index, stage) in stages.iter().enumerate() {
-        let number = index as u8 + 1;
-        let script = script_of_stage(alloc, declared, resolved, number, &spawned, stage)?;
-        add_spawned(&mut spawned, &script)?;
-        bodies.push(Body {
-            script,
-            earliest_end: stage.earliest_end,
-        })?;
-    }
+    add_bodies(alloc, declared, resolved, stages, &mut bodies, &mut spawned)?;
     Ok(bodies)
 }
 

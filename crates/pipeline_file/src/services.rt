@@ -1,6 +1,6 @@
 //! The services of a file, and what belongs to which.
 
-ghost use Rattle.std.specs.Prelude.{◌≡◌, ◌≤◌, ◌<◌, ◌+◌, ◌++◌, ◌∷◌, length, OnOk, IfOk};
+ghost use Rattle.std.specs.Prelude.{◌≡◌, ◌≤◌, ◌<◌, ◌+◌, ◌++◌, [], ◌∷◌, length, OnOk, IfOk};
 ghost use Rattle.pipeline_tables.specs.Limits.{HasLimits};
 ghost use Rattle.pipeline_file.specs.Services.{for_each, further_one, next_txn, next_reg, further_from, owners_from, register_services, is_of, those_of, services_of, homes_from};
 
@@ -138,26 +138,39 @@ fn add_those(
     Ok(())
 }
 
-/// All services: `txn` and those of its kind, then `reg` and those of its kind.
+/// Adds all services to an empty list, where tables add these further ones.
 #[tactic(auto, unfolding(crate::specs::Services::services_of))]
+fn add_services(
+    list: &mut Seq<ServiceDef>,
+    tables: &FileTables,
+    further: &[ServiceDef],
+) -> Result<(), AllocError>
+    requires empty { list.old ≡ [] }
+    requires all { further.now ≡ further_from 2 2 tables.now.services }
+    ensures { OnOk result (list.new ≡ services_of tables.now) }
+{
+    list.push(ServiceDef {
+        name: txn_name(),
+        id: ServiceId::Txn(1),
+        replicas: 0,
+    })?;
+    add_those(list, ServiceKind::Txn, further)?;
+    list.push(ServiceDef {
+        name: reg_name(),
+        id: ServiceId::Reg(1),
+        replicas: tables.root.replicas,
+    })?;
+    add_those(list, ServiceKind::Reg, further)
+}
+
+/// All services: `txn` and those of its kind, then `reg` and those of its kind.
 pub fn services(alloc: Global, tables: &FileTables) -> Result<Seq<ServiceDef>, AllocError>
     requires few { HasLimits tables.now }
     ensures { IfOk result (λ list. list ≡ services_of tables.now) }
 {
     let further = further(alloc, tables.services.as_slice())?;
     let mut list = Seq::new(alloc);
-    list.push(ServiceDef {
-        name: txn_name(),
-        id: ServiceId::Txn(1),
-        replicas: 0,
-    })?;
-    add_those(&mut list, ServiceKind::Txn, further.as_slice())?;
-    list.push(ServiceDef {
-        name: reg_name(),
-        id: ServiceId::Reg(1),
-        replicas: tables.root.replicas,
-    })?;
-    add_those(&mut list, ServiceKind::Reg, further.as_slice())?;
+    add_services(&mut list, tables, further.as_slice())?;
     Ok(list)
 }
 

@@ -1,5 +1,5 @@
 -- How many tables of a kind a file has at most.
-use Rattle.std.specs.Prelude.{ℕ, ◌≤◌, length}
+use Rattle.std.specs.Prelude.{◌≤◌, length}
 use Rattle.pipeline_tables.specs.declared.tables.FileTables.{FileTables}
 
 -- no more tables than a file may have

@@ -22,20 +22,26 @@ services_from root at room n (item value items) = row_in (service_of root room) 
 abbrev pub array_place : FileKey → Place
 array_place key = key_place table.Root 0 key
 
+-- the rows of an array of tables that need not be there
+unfoldable pub rows_or_none : {A : Type 0} → (ℕ → Members → Result A FileFault) → ℕ → FileKey → Members → Result (List A) FileFault
+rows_or_none says most key members = tables_or_none most (array_place key) members >>= rows_from says (array_place key) 1
+
+-- the rows of an array of one table at least
+unfoldable pub rows_at : {A : Type 0} → (ℕ → Members → Result A FileFault) → ℕ → FileKey → Members → Result (List A) FileFault
+rows_at says most key members = tables_at 1 most (array_place key) members >>= rows_from says (array_place key) 1
+
+-- the further services
+unfoldable pub further_services : RootTable → Members → Result (List ServiceTable) FileFault
+further_services root members = tables_or_none 6 (array_place key.Service) members >>= services_from root (array_place key.Service) (64 - length root.registers) 1
+
 -- all tables, in the order of checking: the root's own keys, then array by array
 unfoldable pub tables_said : Members → Result FileTables FileFault
 tables_said members = do
   root ← root_of members
-  shard_items ← tables_or_none 16 (array_place key.Shard) members
-  shards ← rows_from (shard_of root) (array_place key.Shard) 1 shard_items
-  pipe_items ← tables_or_none 16 (array_place key.Pipe) members
-  pipes ← rows_from (pipe_of root) (array_place key.Pipe) 1 pipe_items
-  stage_items ← tables_at 1 16 (array_place key.Stage) members
-  stages ← rows_from (stage_of root) (array_place key.Stage) 1 stage_items
-  withhold_items ← tables_or_none 64 (array_place key.Withhold) members
-  withholds ← rows_from (withhold_of root) (array_place key.Withhold) 1 withhold_items
-  kill_items ← tables_or_none 16 (array_place key.Kill) members
-  kills ← rows_from (kill_of root) (array_place key.Kill) 1 kill_items
-  service_items ← tables_or_none 6 (array_place key.Service) members
-  services ← services_from root (array_place key.Service) (64 - length root.registers) 1 service_items
+  shards ← rows_or_none (shard_of root) 16 key.Shard members
+  pipes ← rows_or_none (pipe_of root) 16 key.Pipe members
+  stages ← rows_at (stage_of root) 16 key.Stage members
+  withholds ← rows_or_none (withhold_of root) 64 key.Withhold members
+  kills ← rows_or_none (kill_of root) 16 key.Kill members
+  services ← further_services root members
   Ok (record { root = root; shards = shards; pipes = pipes; stages = stages; withholds = withholds; kills = kills; services = services })

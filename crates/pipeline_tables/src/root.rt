@@ -6,10 +6,11 @@ ghost use Rattle.pipeline_tables.specs.Rows.{root_of};
 
 use crate::fault::{FileError, FileKey, Place, Table};
 use crate::keys::check_keys;
-use crate::limits::{LONGEST_END, MOST_REGISTERS, MOST_STEPS};
+use crate::limits::{LONGEST_END, MOST_TRIES};
 use crate::lists::names_or_none;
 use crate::tables::RootTable;
 use crate::values::{number_or, optional_number, replicas_or};
+use rss_names::{MOST_REGISTERS, MOST_STAGES, MOST_STEPS};
 use std::alloc::Global;
 
 /// The root's own keys.
@@ -31,14 +32,41 @@ pub fn read_root(alloc: Global, table: &toml::Table) -> Result<RootTable, FileEr
         FileKey::Kill,
         FileKey::Service,
     ];
-    let at = |key| Place::key(Table::Root, 0, key);
     check_keys(&keys, Table::Root, 0, table)?;
-    let tries = number_or(table, at(FileKey::Tries), 1, 8, 3)?;
-    let max_steps = number_or(table, at(FileKey::MaxSteps), 1, MOST_STEPS, 100_000)?;
-    let earliest_end = number_or(table, at(FileKey::EarliestEnd), 0, LONGEST_END, 2_000)?;
-    let replicas = replicas_or(table, at(FileKey::Replicas), 3)?;
-    let registers = names_or_none(alloc, table, at(FileKey::Registers), MOST_REGISTERS)?;
-    let drivers = optional_number(table, at(FileKey::Drivers), 1, 16)?;
+    let tries = number_or(
+        table,
+        Place::key(Table::Root, 0, FileKey::Tries),
+        1,
+        MOST_TRIES,
+        3,
+    )?;
+    let max_steps = number_or(
+        table,
+        Place::key(Table::Root, 0, FileKey::MaxSteps),
+        1,
+        MOST_STEPS,
+        100_000,
+    )?;
+    let earliest_end = number_or(
+        table,
+        Place::key(Table::Root, 0, FileKey::EarliestEnd),
+        0,
+        LONGEST_END,
+        2_000,
+    )?;
+    let replicas = replicas_or(table, Place::key(Table::Root, 0, FileKey::Replicas), 3)?;
+    let registers = names_or_none(
+        alloc,
+        table,
+        Place::key(Table::Root, 0, FileKey::Registers),
+        MOST_REGISTERS,
+    )?;
+    let drivers = optional_number(
+        table,
+        Place::key(Table::Root, 0, FileKey::Drivers),
+        1,
+        MOST_STAGES as u32,
+    )?;
     Ok(RootTable {
         tries: tries as u8,
         max_steps,

@@ -2,13 +2,13 @@
 
 use crate::fault::{FileError, FileKey, Place, Table};
 use crate::keys::check_keys;
-use crate::limits::{LONGEST_END, MOST_STEPS};
+use crate::limits::{LONGEST_END, MOST_CHUNKS, MOST_KEYS};
 use crate::lists::names_at;
 use crate::row::Row;
 use crate::tables::{KillTable, PipeTable, RootTable, ShardTable, StageTable, WithholdTable};
 use crate::targets::target_at;
 use crate::values::{name_at, number_at, number_or, optional_name, text_at};
-use rss_names::Seq;
+use rss_names::{MOST_STEPS, Seq};
 use std::alloc::Global;
 
 impl Row for ShardTable {
@@ -23,12 +23,17 @@ impl Row for ShardTable {
         number: u16,
         table: &toml::Table,
     ) -> Result<ShardTable, FileError> {
-        let at = |key| Place::key(Table::Shard, number, key);
         let keys = [FileKey::Name, FileKey::Keys, FileKey::Service];
         check_keys(&keys, Table::Shard, number, table)?;
-        let name = name_at(table, at(FileKey::Name))?;
-        let keys = names_at(alloc, table, at(FileKey::Keys), 1, 64)?;
-        let service = optional_name(table, at(FileKey::Service))?;
+        let name = name_at(table, Place::key(Table::Shard, number, FileKey::Name))?;
+        let keys = names_at(
+            alloc,
+            table,
+            Place::key(Table::Shard, number, FileKey::Keys),
+            1,
+            MOST_KEYS,
+        )?;
+        let service = optional_name(table, Place::key(Table::Shard, number, FileKey::Service))?;
         Ok(ShardTable {
             name,
             keys,
@@ -49,13 +54,18 @@ impl Row for PipeTable {
         number: u16,
         table: &toml::Table,
     ) -> Result<PipeTable, FileError> {
-        let at = |key| Place::key(Table::Pipe, number, key);
         let keys = [FileKey::Name, FileKey::From, FileKey::To, FileKey::Capacity];
         check_keys(&keys, Table::Pipe, number, table)?;
-        let name = name_at(table, at(FileKey::Name))?;
-        let from = name_at(table, at(FileKey::From))?;
-        let to = name_at(table, at(FileKey::To))?;
-        let capacity = number_or(table, at(FileKey::Capacity), 1, 64, 1)?;
+        let name = name_at(table, Place::key(Table::Pipe, number, FileKey::Name))?;
+        let from = name_at(table, Place::key(Table::Pipe, number, FileKey::From))?;
+        let to = name_at(table, Place::key(Table::Pipe, number, FileKey::To))?;
+        let capacity = number_or(
+            table,
+            Place::key(Table::Pipe, number, FileKey::Capacity),
+            1,
+            MOST_CHUNKS,
+            1,
+        )?;
         Ok(PipeTable {
             name,
             from,
@@ -77,13 +87,18 @@ impl Row for StageTable {
         number: u16,
         table: &toml::Table,
     ) -> Result<StageTable, FileError> {
-        let at = |key| Place::key(Table::Stage, number, key);
         let keys = [FileKey::Name, FileKey::Script, FileKey::EarliestEnd];
         check_keys(&keys, Table::Stage, number, table)?;
-        let name = name_at(table, at(FileKey::Name))?;
-        let script = text_at(table, at(FileKey::Script))?;
+        let name = name_at(table, Place::key(Table::Stage, number, FileKey::Name))?;
+        let script = text_at(table, Place::key(Table::Stage, number, FileKey::Script))?;
         let default = root.earliest_end;
-        let earliest_end = number_or(table, at(FileKey::EarliestEnd), 0, LONGEST_END, default)?;
+        let earliest_end = number_or(
+            table,
+            Place::key(Table::Stage, number, FileKey::EarliestEnd),
+            0,
+            LONGEST_END,
+            default,
+        )?;
         let script = Vec::from_slice(alloc, script.as_bytes())?;
         Ok(StageTable {
             name,
@@ -105,7 +120,6 @@ impl Row for WithholdTable {
         number: u16,
         table: &toml::Table,
     ) -> Result<WithholdTable, FileError> {
-        let at = |key| Place::key(Table::Withhold, number, key);
         let keys = [
             FileKey::Stage,
             FileKey::Target,
@@ -113,10 +127,20 @@ impl Row for WithholdTable {
             FileKey::Count,
         ];
         check_keys(&keys, Table::Withhold, number, table)?;
-        let stage = name_at(table, at(FileKey::Stage))?;
-        let target = target_at(table, at(FileKey::Target))?;
-        let from = number_at(table, at(FileKey::From), 1, MOST_STEPS)?;
-        let count = number_at(table, at(FileKey::Count), 1, MOST_STEPS)?;
+        let stage = name_at(table, Place::key(Table::Withhold, number, FileKey::Stage))?;
+        let target = target_at(table, Place::key(Table::Withhold, number, FileKey::Target))?;
+        let from = number_at(
+            table,
+            Place::key(Table::Withhold, number, FileKey::From),
+            1,
+            MOST_STEPS,
+        )?;
+        let count = number_at(
+            table,
+            Place::key(Table::Withhold, number, FileKey::Count),
+            1,
+            MOST_STEPS,
+        )?;
         Ok(WithholdTable {
             stage,
             target,
@@ -138,11 +162,15 @@ impl Row for KillTable {
         number: u16,
         table: &toml::Table,
     ) -> Result<KillTable, FileError> {
-        let at = |key| Place::key(Table::Kill, number, key);
         let keys = [FileKey::Stage, FileKey::Act];
         check_keys(&keys, Table::Kill, number, table)?;
-        let stage = name_at(table, at(FileKey::Stage))?;
-        let act = number_at(table, at(FileKey::Act), 1, MOST_STEPS)?;
+        let stage = name_at(table, Place::key(Table::Kill, number, FileKey::Stage))?;
+        let act = number_at(
+            table,
+            Place::key(Table::Kill, number, FileKey::Act),
+            1,
+            MOST_STEPS,
+        )?;
         Ok(KillTable { stage, act })
     }
 }

@@ -9,11 +9,10 @@ ghost use Rattle.pipeline_tables.specs.Services.{services_from};
 
 use crate::fault::{FaultKind, FileError, FileFault, FileKey, Place, Table};
 use crate::keys::check_keys;
-use crate::limits::MOST_REGISTERS;
 use crate::lists::names_or_none;
 use crate::tables::{RootTable, ServiceKind, ServiceTable};
 use crate::values::{name_at, replicas_or, text_at};
-use rss_names::Seq;
+use rss_names::{MOST_REGISTERS, Seq};
 use std::alloc::Global;
 use toml::Value;
 
@@ -53,7 +52,6 @@ fn read_service(
 ) -> Result<ServiceTable, FileError>
     ensures { Tells result (service_of root.now room number (table_view table.now)) }
 {
-    let at = |key| Place::key(Table::Service, number, key);
     let keys = [
         FileKey::Name,
         FileKey::Kind,
@@ -61,11 +59,20 @@ fn read_service(
         FileKey::Replicas,
     ];
     check_keys(&keys, Table::Service, number, table)?;
-    let name = name_at(table, at(FileKey::Name))?;
-    let kind = kind_at(table, at(FileKey::Kind))?;
+    let name = name_at(table, Place::key(Table::Service, number, FileKey::Name))?;
+    let kind = kind_at(table, Place::key(Table::Service, number, FileKey::Kind))?;
     let most = most_registers(kind, room);
-    let registers = names_or_none(alloc, table, at(FileKey::Registers), most)?;
-    let replicas = replicas_or(table, at(FileKey::Replicas), root.replicas)?;
+    let registers = names_or_none(
+        alloc,
+        table,
+        Place::key(Table::Service, number, FileKey::Registers),
+        most,
+    )?;
+    let replicas = replicas_or(
+        table,
+        Place::key(Table::Service, number, FileKey::Replicas),
+        root.replicas,
+    )?;
     Ok(ServiceTable {
         name,
         kind,

@@ -1,7 +1,7 @@
 use Rattle.std.proofs.Common.{◌≡◌, ◌+◌, [], length, drop}
 use Rattle.pipeline_tables.specs.Lists.{onto}
 use Rattle.pipeline_file.specs.Scripts.{bodies_from}
-use Rattle.pipeline_file.proofs.scripts.bodies.Given as goal
+use Rattle.pipeline_file.proofs.scripts.add_bodies.Given as goal
 
 -- the bodies so far are those before the rest
 abbrev pub invariant-loop-index : goal.invariant-loop-index

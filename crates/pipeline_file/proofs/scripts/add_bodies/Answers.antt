@@ -1,15 +1,15 @@
 use Rattle.std.proofs.Common.{◌+◌, ◌++◌, drop, arith}
 use Rattle.std.proofs.lemmas.Grind.{common_steps}
 use Rattle.script_binding.specs.Environment.{spawned_in}
-use Rattle.pipeline_tables.proofs.Laws.{turn_err, turn_end, tells_on}
+use Rattle.pipeline_tables.proofs.Laws.{turn_err, turn_end}
 use Rattle.pipeline_file.specs.Scripts.{script_said, bodies_from}
-use Rattle.pipeline_file.proofs.Bodies.{bodies_from_drop, bodies_from_end, turn_made}
-use Rattle.pipeline_file.proofs.scripts.bodies.Goals as goal
+use Rattle.pipeline_file.proofs.Bodies.{bodies_from_drop, bodies_from_end, turn_made, refused_on}
+use Rattle.pipeline_file.proofs.scripts.add_bodies.Goals as goal
 
-pub returns-in_err-script-clause-read : goal.returns-in_err-script-clause-read
-returns-in_err-script-clause-read c =
+pub returns-in_err-script-clause-refused : goal.returns-in_err-script-clause-refused
+returns-in_err-script-clause-refused c =
     let step = bodies_from_drop c.args.declared.now c.args.resolved.now (c.loop-index.index + 1) c.loop-index.spawned c.args.stages.now c.loop-index.index c.index-stages-index.result c.loop-index-test.true in
-    tells_on c.in_err-script.field-0.0 c.from_residual.result (script_said c.args.declared.now c.args.resolved.now (c.loop-index.index + 1) c.loop-index.spawned c.index-stages-index.result.script) _ c.in_err-script.ensures
+    refused_on c.in_err-script.field-0.0 c.from_residual.result (script_said c.args.declared.now c.args.resolved.now (c.loop-index.index + 1) c.loop-index.spawned c.index-stages-index.result.script) _ c.in_err-script.ensures
     (λ first s. turn_err _ _ c.loop-index.bodies first _ _ c.loop-index.invariant.0 (rw (← c.index-stages-index.is) at step) s) c.from_residual.ensures.1
 
 pub loop-index-preserved : goal.loop-index-preserved
