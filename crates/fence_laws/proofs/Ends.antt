@@ -32,7 +32,7 @@ use Rattle.fence_laws.specs.Fences.{is_planned, no_work, Before, had, call_begin
 use Rattle.fence_laws.specs.Laws.{MomentsRise}
 use Rattle.fence_laws.proofs.Going.{Owned}
 use Rattle.fence_laws.proofs.StepsOf.{moments_run, step_by, step_rises}
-use Rattle.fence_laws.proofs.Waits.{AllWait, waits_start}
+use Rattle.world_laws.proofs.Waits.{AllWait, waits_start}
 use Rattle.fence_laws.proofs.Walk.{Through, through_walk}
 
 -- the works with which an owner goes into a step fit the context

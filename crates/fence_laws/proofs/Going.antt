@@ -26,7 +26,7 @@ use Rattle.world_laws.proofs.PlannedOwners.{is_fixing}
 use Rattle.world_laws.proofs.SessionMoves.{session_at}
 use Rattle.world_laws.proofs.TurnMoves.{RestingNotes}
 use Rattle.fence_laws.specs.Fences.{is_planned, no_work, Before, had, call_begins, fence_begins, stub_plans, stub_begins, plans_none}
-use Rattle.fence_laws.proofs.Waits.{OwnWaits, past_work, fixed_work}
+use Rattle.world_laws.proofs.Waits.{OwnWaits, past_work, fixed_work}
 
 -- an owner whose works are not planned yet
 pub record Unplanned (u : State) (o : ℕ) (w : Owner) : Type 0 where

@@ -1,5 +1,4 @@
 pub mod StepsOf
-pub mod Waits
 pub mod Going
 pub mod Walk
 pub mod Ends

@@ -43,7 +43,7 @@ use Rattle.world_laws.proofs.StageMoves.{AnyFate, AnyState, ended_to, owner_all}
 use Rattle.world_laws.proofs.StagesOwned.{grown_new}
 use Rattle.world_laws.proofs.Told.{each_set}
 use Rattle.world_laws.proofs.TurnMoves.{StepMoves, step_moves, ShardTurn, txn_answered, snap_answered, txn_wakes_one, snap_wakes_one, txn_passes_time}
-use Rattle.fence_laws.proofs.Waits.{AllWait, waits_keep}
+use Rattle.world_laws.proofs.Waits.{AllWait, waits_keep}
 use Rattle.fence_laws.proofs.Going.{Unplanned, Going, Owned, Alike, alike_same, owned_alike, planned_all, plans_going, resting_going, working_going, leaving_going, Untouched, begins_going, doing_alike}
 
 module _ (u : State) (at : Reading) where

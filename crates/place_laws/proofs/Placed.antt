@@ -157,7 +157,7 @@ module _ (s : State) (agree : AllAgree s) (stamps : OwnStamps s) where
     by_work (work.Read key) w e = inr (read_is key w h.round.phase refl (subst (λ (x : RegWork). PhaseFits x h.round.phase) w h.fits) e)
     by_work (work.Fix deps) w e = absurd (none_is_not k e)
 
-    placed_with : register_key_of s o (is_read_work h.round.work) (session_stamp (owner_at s o).session (owner_at s o).stored) ≡ Some k → IsPlaced s o k
+    pub placed_with : register_key_of s o (is_read_work h.round.work) (session_stamp (owner_at s o).session (owner_at s o).stored) ≡ Some k → IsPlaced s o k
     placed_with e = by_work h.round.work refl (sym (ap (register_key_of s o (is_read_work h.round.work)) stamp_is) ∙ e)
 
   -- a placed call is a write or a read, where its operation is on a register

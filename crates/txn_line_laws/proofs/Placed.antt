@@ -21,19 +21,19 @@ none_end : (n : ℕ) → ◌≡◌ {A = Option ℕ} None (Some n) → ⊥
 none_end n f = cc
 
 -- a transaction's key, by what it has under way and its commit
-txn_keyed : (s : State) (o : ℕ) (x : TxnSession) (m : Option ℕ) → (owner_at s o).session ≡ session.Transaction x → commit_of s x ≡ m → session_key s o (owner_at s o).session ≡ txn_key_of s o (is_absent m) (first_time m (failed_time x.phase))
+pub txn_keyed : (s : State) (o : ℕ) (x : TxnSession) (m : Option ℕ) → (owner_at s o).session ≡ session.Transaction x → commit_of s x ≡ m → session_key s o (owner_at s o).session ≡ txn_key_of s o (is_absent m) (first_time m (failed_time x.phase))
 txn_keyed s o x m e f =
     ap (session_key s o) e
     ∙ (ap (λ (t : Option ℕ). txn_key_of s o (is_absent (commit_of s x)) t) (ap (session_time s) e)
     ∙ ap (λ (n : Option ℕ). txn_key_of s o (is_absent n) (first_time n (failed_time x.phase))) f)
 
-snap_keyed : (s : State) (o : ℕ) (x : SnapSession) → (owner_at s o).session ≡ session.Snapshot x → session_key s o (owner_at s o).session ≡ txn_key_of s o true (snap_end x.phase)
+pub snap_keyed : (s : State) (o : ℕ) (x : SnapSession) → (owner_at s o).session ≡ session.Snapshot x → session_key s o (owner_at s o).session ≡ txn_key_of s o true (snap_end x.phase)
 snap_keyed s o x e = ap (session_key s o) e ∙ ap (λ (t : Option ℕ). txn_key_of s o true t) (ap (session_time s) e)
 
 not_failed : (p : TxnPhase) (time t : ℕ) → p ≡ phase.Failed t → CommitsAt p time → ⊥
 not_failed p time t e f = subst (λ (q : TxnPhase). CommitsAt q time) e f
 
-snap_done : (p : SnapPhase) (time : ℕ) → snap_end p ≡ Some time → p ≡ Done time
+pub snap_done : (p : SnapPhase) (time : ℕ) → snap_end p ≡ Some time → p ≡ Done time
 snap_done (Done other) time e = ap (λ (n : ℕ). Done n) (same e)
   where
     same : Some other ≡ Some time → other ≡ time

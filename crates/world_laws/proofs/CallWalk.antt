@@ -61,18 +61,18 @@ pub record Names (v w : Owner) : Type 0 where
 abbrev names : {v w : Owner} → w.stage ≡ v.stage → w.kind ≡ v.kind → w.dates.begun ≡ v.dates.begun → Names v w
 names a b d = record { stage = a; kind = b; begun = d }
 
-resting_names : (s : State) (o : ℕ) (w : Owner) → Resting s o w → Names (owner_at s o) w
+pub resting_names : (s : State) (o : ℕ) (w : Owner) → Resting s o w → Names (owner_at s o) w
 resting_names s o _ (plans e b) = names refl refl refl
 resting_names s o _ (past id x rest time l e) = names refl refl refl
 resting_names s o _ (fixed id x rest r e l a b d) = names refl refl refl
 resting_names s o _ (cleared r e l a b d) = names refl refl refl
 
-working_names : (at : Reading) (s : State) (o : ℕ) (w : Owner) → Working at s o w → Names (owner_at s o) w
+pub working_names : (at : Reading) (s : State) (o : ℕ) (w : Owner) → Working at s o w → Names (owner_at s o) w
 working_names at s o _ (owes_nothing id rest l) = names refl refl refl
 working_names at s o _ (is_past id time rest l e) = names refl refl refl
 working_names at s o _ (enters_own x l e f) = names refl refl refl
 
-leaving_names : (c : Config) (at : Reading) (s : State) (o : ℕ) (w : Owner) (outs : List Out) → Leaving c at s o w outs → Names (owner_at s o) w
+pub leaving_names : (c : Config) (at : Reading) (s : State) (o : ℕ) (w : Owner) (outs : List Out) → Leaving c at s o w outs → Names (owner_at s o) w
 leaving_names c at s o _ _ (waits id time rest l) = names refl refl refl
 leaving_names c at s o _ _ (fixes_work id rest l) = names refl refl refl
 leaving_names c at s o _ _ (fixes_own x dep deps l e d) = names refl refl refl
@@ -83,7 +83,7 @@ leaving_names c at s o _ _ (begins_txn reads guard writes x l e d) = names refl 
 leaving_names c at s o _ _ (fence_done l e) = names refl refl refl
 leaving_names c at s o _ _ (stub_done u l e) = names refl refl refl
 
-doing_names : (s : State) (o : ℕ) (w : Owner) (outs : List Out) (new : List Dep) → Doing s o w outs new → Names (owner_at s o) w
+pub doing_names : (s : State) (o : ℕ) (w : Owner) (outs : List Out) (new : List Dep) → Doing s o w outs new → Names (owner_at s o) w
 doing_names s o _ _ _ (listens_one slot r d) = names refl refl refl
 doing_names s o _ _ _ (fix_hears f slot r x d e) = names refl refl refl
 doing_names s o _ _ _ (fix_reached f slot r y x d e) = names refl refl refl

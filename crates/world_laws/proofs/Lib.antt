@@ -50,3 +50,6 @@ pub mod NamedRuns
 pub mod Stacked
 pub mod FileRegisters
 pub mod StackRuns
+pub mod Waits
+pub mod Towards
+pub mod Under
