@@ -1,7 +1,3 @@
-pub mod StepMoves
-pub mod Works
-pub mod Acts
-pub mod Hears
 pub mod Walk
 pub mod Under
 pub mod Counting

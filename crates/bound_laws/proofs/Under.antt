@@ -25,7 +25,7 @@ use Rattle.rss_machine.specs.State.{opening_owner}
 use Rattle.world_laws.proofs.Doings.{Changed, Heard, Beginning, Resting, Working, Leaving, Doing, counts_one}
 use Rattle.world_laws.proofs.SessionMoves.{session_at, IsAgain}
 use Rattle.world_laws.proofs.OwnerMoves.{OwnerKeeps, kept_changed}
-use Rattle.bound_laws.proofs.StepMoves.{StepKeeps}
+use Rattle.bound_laws.proofs.Walk.{StepKeeps}
 
 -- what has to be shown of a predicate, where others are known
 pub record StepKeepsUnder (c : Config) (at : Reading) (F S : State → Type 0) (T : State → ℕ → Type 0) (P : State → Type 0) (R : State → ℕ → Type 0) : Type 1 where

@@ -20,6 +20,7 @@ use Rattle.rss_wire.specs.declared.message.Body.{Body}
 use Rattle.rss_wire.specs.declared.message.Body.TheVariants as body
 use Rattle.rss_wire.specs.declared.message.Message.{Message}
 use Rattle.rss_wire.specs.declared.messages.Request.{Request}
+use Rattle.world_laws.specs.Exchanges.{is_request}
 use Rattle.rss_machine.specs.Effect.{stepped}
 use Rattle.rss_machine.specs.Moves.{counts_act}
 use Rattle.rss_machine.specs.Refusal.{refusal}
@@ -32,7 +33,7 @@ use Rattle.world_laws.proofs.Replies.{Sound, sound_start}
 use Rattle.world_laws.proofs.Runs.{run_keeps, run_split, run_rest, steps_keep}
 use Rattle.world_laws.proofs.Sent.{to_shard, Asks, SentAll, sent_none}
 use Rattle.world_laws.proofs.StageMoves.{AnyState}
-use Rattle.bound_laws.specs.Counts.{stores_dependencies, is_request, is_own, is_own_to, is_request_to, own_requests, requests_to, requests_to_all, losses_with_all}
+use Rattle.bound_laws.specs.Counts.{stores_dependencies, is_own, is_own_to, is_request_to, own_requests, requests_to, requests_to_all, losses_with_all}
 use Rattle.bound_laws.specs.Laws.{BeginsClean, AllFew}
 use Rattle.bound_laws.proofs.Clean.{IsOf}
 use Rattle.bound_laws.proofs.ReadRounds.{calls_run}

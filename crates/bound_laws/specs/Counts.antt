@@ -16,6 +16,7 @@ use Rattle.rss_tables.specs.declared.register_session.RegWork.{RegWork}
 use Rattle.rss_tables.specs.declared.register_session.RegWork.TheVariants as work
 use Rattle.rss_machine.specs.Session.{Session}
 use Rattle.rss_machine.specs.declared.session.Session.TheVariants as session
+use Rattle.world_laws.specs.Exchanges.{is_request}
 
 -- whether a request stores dependencies, and is none of a call's own rounds
 abbrev pub stores_dependencies : Request → Bool
@@ -26,11 +27,6 @@ stores_dependencies _ = false
 abbrev pub is_own : Body → Bool
 is_own (body.Request r) = if stores_dependencies r then false else true
 is_own (body.Reply r) = false
-
--- whether a message is a request
-abbrev pub is_request : Body → Bool
-is_request (body.Request r) = true
-is_request (body.Reply r) = false
 
 -- whether a message is such a request of an owner to a target
 abbrev pub is_own_to : ℕ → Target → Message → Bool

@@ -12,7 +12,7 @@ use Rattle.rss_machine.specs.Effect.{stepped}
 use Rattle.rss_machine.specs.Moves.{ticks}
 use Rattle.rss_machine.specs.Refusal.{refusal}
 use Rattle.rss_machine.specs.Run.{run, run_from}
-use Rattle.rss_machine.specs.State.{State, Owner, start, stages_from, owner_at, no_owner, no_stage, opening_stage}
+use Rattle.rss_machine.specs.State.{State, Owner, start, stages_from, owner_at, no_stage, opening_stage}
 use Rattle.rss_machine.specs.Withheld.{loses_one, lost_from}
 use Rattle.rss_machine.specs.declared.state.Life.TheVariants.{Unborn, Live, Over}
 use Rattle.rss_machine.specs.declared.state.OwnerFate.TheVariants.{Ended, CutOff}
@@ -21,7 +21,7 @@ use Rattle.world_laws.specs.Calls.{StagesOwn, Onward}
 use Rattle.world_laws.proofs.Later.{later_from}
 use Rattle.world_laws.proofs.Runs.{run_none, run_rest, run_before, run_ends, passes}
 use Rattle.world_laws.proofs.Scripts.{onward_from}
-use Rattle.world_laws.proofs.ToldLaws.{told_step, told_start}
+use Rattle.world_laws.proofs.ToldLaws.{told_step, told_start, start_owner}
 use Rattle.world_laws.proofs.ToldRuns.{AllTold}
 use Rattle.loss_laws.proofs.Places.{IsWithin, IsTarget, AreTargets}
 use Rattle.world_laws.specs.Targets.{HasPlace}
@@ -89,10 +89,6 @@ counting c (step ∷ steps) u s e l p a h =
     m = made c (ticks u step.at) step.at (own_ticks u step a.told.stages) places h.long step.kind (passes c u step r.0).kind
 
 -- before the first step
-start_owner : (c : Config) (o : ℕ) → owner_at (start c) o ≡ no_owner
-start_owner c zero = refl
-start_owner c (suc o) = refl
-
 not_over : (b : Bool) → (opening_stage (if b then Unborn else Live)).life ≡ Over Unavailable → ⊥
 not_over true e = unborn e
   where

@@ -21,6 +21,7 @@ use Rattle.rss_machine.specs.Moves.{ticks, sends_one, sends, serves_replica, not
 use Rattle.rss_machine.specs.Run.{run}
 use Rattle.rss_machine.specs.State.{State, start, owner_at}
 use Rattle.rss_machine.specs.declared.step.Step.{Step}
+use Rattle.world_laws.proofs.Holders.{not_lt_le}
 use Rattle.world_laws.proofs.OwnerMoves.{OwnerKeeps}
 use Rattle.world_laws.proofs.Replies.{Sound, sound_keeps}
 use Rattle.world_laws.proofs.Stacked.{OwnerKeepsUnder, stacked}
@@ -29,7 +30,6 @@ use Rattle.std.specs.Prelude.{if◌then◌else◌}
 use Rattle.std.proofs.lemmas.List.{get_or-set_same}
 use Rattle.rss_wire.specs.Messages.{meets, asks}
 use Rattle.world_laws.proofs.Looks.{get_or_past}
-use Rattle.std.proofs.lemmas.Bool.Decides.{nat_tests}
 use Rattle.std.proofs.lemmas.List.Elements.{All-tail}
 use Rattle.carstamps.specs.declared.carstamp.Carstamp.{Carstamp}
 use Rattle.carstamps.specs.Stamp.{stamp_le, stamp_lt}
@@ -54,10 +54,6 @@ use Rattle.reg_laws.proofs.Tells.{RepliesHold, hold_weaker, hold_meets, hold_ask
 use Rattle.reg_laws.proofs.Valid.{Valid}
 use Rattle.reg_laws.proofs.ValidServes.{ServedWell, served_well}
 use Rattle.reg_laws.proofs.ValidRuns.{valid_under, valid_ticks, valid_start}
-
--- of two stamps one is at least the other
-not_lt_le : (a b : Carstamp) → stamp_lt a b ≡ false → stamp_le b a ≡ true
-not_lt_le a b e = grind (arith, nat_tests)
 
 -- a replica that keeps a register holds at least what it has accepted
 accept_gets : (cells : List RegReply) (key : Key) (cell : RegReply) → key.index < length cells → stamp_le cell.stamp (held_at (accept cells key cell) key).stamp ≡ true

@@ -23,7 +23,7 @@ use Rattle.rss_machine.specs.Calls.{register_ends}
 use Rattle.rss_machine.specs.Effect.{begins_call, takes_end, takes, waits_over, makes, txn_line_wakes, snap_line_wakes, txn_acts, session_acts, owner_acts, acts, waking_line}
 use Rattle.std.specs.Prelude.{⊤}
 use Rattle.rss_machine.specs.Enabling.{next_statement, is_enabled_at, txn_enabling, session_enabling, owner_enabling}
-use Rattle.world_laws.proofs.TurnMoves.{StepMoves, txn_wakes_one, snap_wakes_one, txn_passes_time}
+use Rattle.world_laws.proofs.TurnMoves.{WalkMoves, txn_wakes_one, snap_wakes_one, txn_passes_time}
 use Rattle.rss_machine.specs.Moves.{opens_call, opens_fence, closes}
 use Rattle.rss_machine.specs.Standing.{is_live, stage_state}
 use Rattle.rss_machine.specs.State.{State, Owner, stage_at, owner_at, pipe_at}
@@ -58,7 +58,7 @@ abbrev pub IsActive : Reading → State → Option ℕ → Type 0
 IsActive at s None = ⊤
 IsActive at s (Some o) = is_enabled_at (owner_enabling s (owner_at s o).works.wait (owner_at s o).session) at.earliest ≡ true
 
-module _ (c : Config) (at : Reading) (A : OwnerFate → Type 0) (F P : State → Type 0) (R D : State → ℕ → Type 0) (k : StepMoves c at A F P R D) where
+module _ (c : Config) (at : Reading) (A : OwnerFate → Type 0) (F P : State → Type 0) (R D : State → ℕ → Type 0) (k : WalkMoves c at A F P R D) where
   -- calls end
   pub w_register_ends : (s : State) (o : ℕ) (f : RegSession) (e : RegEnd) → A (owner_at s o).fate → session_at s o ≡ session.Register f → (w : RegWork) → f.work ≡ w → f.phase ≡ phase.Done e → D s o → P (register_ends c s o w e)
   w_register_ends s o f (ends.Read cell dep) g x (work.Read key) a b h = k.reads s _ o f key cell dep g x a b refl (ends_changed (given_dep dep) s o _ (closed s o Ended) _ _ refl (λ G n d. n)) h

@@ -48,7 +48,7 @@ use Rattle.rss_machine.specs.declared.turn.Enabling.TheVariants.{Never}
 use Rattle.world_laws.proofs.Contexts.{copy_holds}
 use Rattle.world_laws.proofs.Doings.{Heard, listened, heard_to, reached_to, plans, listens_one, fix_hears, fix_reached, register_hears, register_stores, counts_one, cuts_one, stub_asks}
 use Rattle.world_laws.proofs.SessionMoves.{session_at, IsLost}
-use Rattle.world_laws.proofs.TurnMoves.{StepMoves, txn_answered, snap_answered}
+use Rattle.world_laws.proofs.TurnMoves.{WalkMoves, txn_answered, snap_answered}
 use Rattle.world_laws.proofs.StageMoves.{counts, killed, lost, quiet}
 use Rattle.world_laws.specs.Calls.{is_stub}
 use Rattle.rss_machine.specs.declared.state.OwnerFate.{OwnerFate}
@@ -61,7 +61,7 @@ use Rattle.world_laws.proofs.OwnerMoves.{own_changed, kept_changed, at_own, busy
 use Rattle.world_laws.proofs.OwnerWorks.{moves, w_dies, w_loses_stub, w_goes_through, w_waited, w_fix_ends}
 use Rattle.world_laws.proofs.OwnerActs.{IsActive, w_register_ends, w_acts}
 
-module _ (c : Config) (at : Reading) (A : OwnerFate → Type 0) (F P : State → Type 0) (R D : State → ℕ → Type 0) (k : StepMoves c at A F P R D) where
+module _ (c : Config) (at : Reading) (A : OwnerFate → Type 0) (F P : State → Type 0) (R D : State → ℕ → Type 0) (k : WalkMoves c at A F P R D) where
   -- messages
   hearing : (s : State) (o slot : ℕ) (r : Reply) → Heard s o slot r → P s → A (owner_at s o).fate
   hearing s o slot r d h = k.heard s o slot (message_at s.net d.number).envelope.exchange d.current h
@@ -186,13 +186,13 @@ module _ (c : Config) (at : Reading) (A : OwnerFate → Type 0) (F P : State →
       cond_both (is_quorum_lost c.tries (owner_at s o).losses service (replicas_of c service)) _ t P
       (λ e. w_target_lost t o (Replica service replica) (owner_at s o).kind (subst A (sym (cut_fate s o (Replica service replica))) g) (cut_kind s o (Replica service replica)) (w_cuts_off s o service replica g h)) (λ f. w_cuts_off s o service replica g h)
 
-  w_asks_again : (s : State) (o exchange slot : ℕ) (target : Target) → IsLost s o exchange target → slot_in (owner_at s o).currents exchange ≡ Some slot → (x : MessageBody) → (message_at s.net exchange).body ≡ x → P s → P (asks_again s o slot target x)
-  w_asks_again s o exchange slot target d e (body.Request r) b h = k.again s o exchange slot target r (record { lost = d; current = e; asked = b }) h
-  w_asks_again s o exchange slot target d e (body.Reply r) b h = h
+  w_asks_again : (s : State) (o exchange slot : ℕ) (target : Target) → A (owner_at s o).fate → IsLost (counts_loss s o target) o exchange target → slot_in (owner_at (counts_loss s o target) o).currents exchange ≡ Some slot → (x : MessageBody) → (message_at s.net exchange).body ≡ x → P s → P (counts_loss s o target) → P (asks_again (counts_loss s o target) o slot target x)
+  w_asks_again s o exchange slot target g d e (body.Request r) b h q = k.again s o exchange slot target r g (record { lost = d; current = e; asked = b }) h
+  w_asks_again s o exchange slot target g d e (body.Reply r) b h q = q
 
-  w_replaces : (s : State) (o : ℕ) (target : Target) (exchange : ℕ) → IsLost s o exchange target → (slot : Option ℕ) → slot_in (owner_at s o).currents exchange ≡ slot → P s → P (replaces s o target exchange slot)
-  w_replaces s o target exchange d None e h = h
-  w_replaces s o target exchange d (Some slot) e h = w_asks_again s o exchange slot target d e (message_at s.net exchange).body refl h
+  w_replaces : (s : State) (o : ℕ) (target : Target) (exchange : ℕ) → A (owner_at s o).fate → IsLost (counts_loss s o target) o exchange target → (slot : Option ℕ) → slot_in (owner_at (counts_loss s o target) o).currents exchange ≡ slot → P s → P (counts_loss s o target) → P (replaces (counts_loss s o target) o target exchange slot)
+  w_replaces s o target exchange g d None e h q = q
+  w_replaces s o target exchange g d (Some slot) e h q = w_asks_again s o exchange slot target g d e (message_at s.net exchange).body refl h q
 
   counted_fate : (s : State) (o : ℕ) (target : Target) → (owner_at (counts_loss s o target) o).fate ≡ (owner_at s o).fate
   counted_fate s o target = grind (arith, looks)
@@ -203,7 +203,7 @@ module _ (c : Config) (at : Reading) (A : OwnerFate → Type 0) (F P : State →
       let q : P t = k.does s t o _ [] [] g (counts_one e.target) tt (quiet refl refl refl) (kept_changed s o _ refl) h in
       cond_both (reaches_tries c.tries (owner_at s o).losses e.target) _ _ P
       (λ r. w_is_cut_off t o e.target (subst A (sym (counted_fate s o e.target)) g) q)
-      (λ f. cond_both (nat_lt (losses_of (owner_at t o).losses e.target) c.tries) _ t P (λ r. w_replaces t o e.target e.exchange (record { number = d.number; by = d.by; numbered = d.numbered; sent = d.sent; of = d.of; to = d.to }) (slot_in (owner_at t o).currents e.exchange) refl q) (λ g. q))
+      (λ f. cond_both (nat_lt (losses_of (owner_at t o).losses e.target) c.tries) _ t P (λ r. w_replaces s o e.target e.exchange g (record { number = d.number; by = d.by; numbered = d.numbered; sent = d.sent; of = d.of; to = d.to }) (slot_in (owner_at t o).currents e.exchange) refl h q) (λ b. q))
 
   w_loses : (s : State) (e : Envelope) → IsLost s e.owner e.exchange e.target → P s → P (loses c s e)
   w_loses s e d h = cond_both (is_running (owner_at s e.owner).fate) _ s P (λ t. w_loss_counts s e.owner e (k.runs (owner_at s e.owner).fate t) d h) (λ f. h)

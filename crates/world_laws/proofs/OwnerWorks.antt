@@ -49,12 +49,12 @@ use Rattle.world_laws.specs.Contexts.{AllDeps, StageHolds, PipeHolds}
 use Rattle.world_laws.proofs.Contexts.{fenced_hold, stage_holds, stages_hold, copy_holds, pipe_holds}
 use Rattle.world_laws.proofs.Doings.{Changed, fence_ended, turned, launched, fix_session, past, fixed, cleared, owes_nothing, is_past, enters_own, waits, fixes_work, fixes_own, asks_register, stamps_register, begins_snapshot, begins_txn, fence_done, stub_done, is_closed}
 use Rattle.world_laws.proofs.SessionMoves.{session_at}
-use Rattle.world_laws.proofs.TurnMoves.{StepMoves}
+use Rattle.world_laws.proofs.TurnMoves.{WalkMoves}
 use Rattle.world_laws.proofs.StageMoves.{StageMove, closes_one, cuts_off_one, is_over, exit_given, Giving, own, by_stub, Making, Dying, quiet}
 use Rattle.world_laws.specs.Calls.{is_stub}
 use Rattle.world_laws.proofs.OwnerMoves.{stage_changed, pipe_changed, stage_kept, own_changed, kept_changed, ends_changed, at_own, waiting_there, fixing_there, there_own, IsReady, ready, Lies}
 
-module _ (c : Config) (at : Reading) (A : OwnerFate → Type 0) (F P : State → Type 0) (R D : State → ℕ → Type 0) (k : StepMoves c at A F P R D) where
+module _ (c : Config) (at : Reading) (A : OwnerFate → Type 0) (F P : State → Type 0) (R D : State → ℕ → Type 0) (k : WalkMoves c at A F P R D) where
   -- stages, and pipes
   pub stage : (s : State) (stages : List Stage) (history : List Entry) → StageMove c s (record s { stages = stages; history = history }) → ((G : Dep → Type 0) → AllDeps G s → All (StageHolds G) stages) → P s → P (record s { stages = stages; history = history })
   stage s stages history y f p = k.stages s (record s { stages = stages; history = history }) y (stage_changed s stages history f) p

@@ -191,13 +191,13 @@ AnyFate f = ⊤
 abbrev pub AnyState : State → Type 0
 AnyState s = ⊤
 
--- a predicate on what owners have
-module _ (c : Config) (at : Reading) (P : State → Type 0) (R : State → ℕ → Type 0) (k : OwnerMoves c at P R) where
+-- a predicate on what owners have, where a stage dies
+module _ (P : State → Type 0) (stub_begins : (s t : State) (n : ℕ) (u : Option (Attempt × List ℕ)) → Changed [] (s.owners ++ opening_owner n (kind.Stubbing u) false (no_works (stage_at s n).context) s.steps ∷ []) s t → P s → P t) (does : (s t : State) (o : ℕ) (w : Owner) (outs : List Out) (new : List Dep) → Doing s o w outs new → Changed new (set s.owners o w) s t → P s → P (sends t o outs)) where
   owner_closed : (s : State) (o : Option ℕ) (f : OwnerFate) → P s → P (closes_owner s o f)
   owner_closed s None f h = h
-  owner_closed s (Some o) f h = k.does s (with_owner s o (closed s o f)) o (closed s o f) [] [] (is_closed f) (kept_changed s o (closed s o f) refl) h
+  owner_closed s (Some o) f h = does s (with_owner s o (closed s o f)) o (closed s o f) [] [] (is_closed f) (kept_changed s o (closed s o f) refl) h
 
-  owner_dies : (s : State) (n : ℕ) (how : How) (f : OwnerFate) → P s → P (dies s n how f)
+  pub owner_dies : (s : State) (n : ℕ) (how : How) (f : OwnerFate) → P s → P (dies s n how f)
   owner_dies s n how f h = by_owner (stage_at s n).owner (owner_closed s (stage_at s n).owner f h)
     where
       by_owner : (o : Option ℕ) → P (closes_owner s o f) → P (let t = closes_owner s o f in record t {
@@ -205,10 +205,12 @@ module _ (c : Config) (at : Reading) (P : State → Type 0) (R : State → ℕ �
         stages = set t.stages (n - 1) (record (stage_at t n) { life = life.Over how; owner = None; stub = Some (length t.owners) });
         history = t.history ++ Over n how ∷ [];
       })
-      by_owner None p = k.dies s _ n (unsettled_by s None) (begins_changed s (n - 1) n (opening_owner n (kind.Stubbing (unsettled_by s None)) false (no_works (stage_at s n).context) s.steps) _ s.planned _ refl refl) p
+      by_owner None p = stub_begins s _ n (unsettled_by s None) (begins_changed s (n - 1) n (opening_owner n (kind.Stubbing (unsettled_by s None)) false (no_works (stage_at s n).context) s.steps) _ s.planned _ refl refl) p
       by_owner (Some o) p = let t = with_owner s o (closed s o f) in
-          k.dies t _ n (unsettled_by s (Some o)) (begins_changed t (n - 1) n (opening_owner n (kind.Stubbing (unsettled_by s (Some o))) false (no_works (stage_at s n).context) s.steps) _ t.planned _ refl refl) p
+          stub_begins t _ n (unsettled_by s (Some o)) (begins_changed t (n - 1) n (opening_owner n (kind.Stubbing (unsettled_by s (Some o))) false (no_works (stage_at s n).context) s.steps) _ t.planned _ refl refl) p
 
+-- and all that a step does
+module _ (c : Config) (at : Reading) (P : State → Type 0) (R : State → ℕ → Type 0) (k : OwnerMoves c at P R) where
   pub owner_all : AllMoves c at AnyFate AnyState P R (λ s o. P s)
   owner_all = record {
     acting = λ s n o e h. tt;
@@ -218,7 +220,7 @@ module _ (c : Config) (at : Reading) (P : State → Type 0) (R : State → ℕ �
     fates = k.fates;
     again = k.again;
     stages = λ s t y d h. k.stages s t d h;
-    dies = λ s n how f y h. owner_dies s n how f h;
+    dies = λ s n how f y h. owner_dies P k.dies k.does s n how f h;
     begins = λ s t w b y a d h. k.begins s t w b d h;
     rests = λ s t o w i a b q d h. k.rests s t o w i b d h;
     settles = λ s o slot attempt shards outcome i a e d h. k.settles s o slot attempt shards outcome i e d h;

@@ -171,7 +171,7 @@ idle_from c n zero (suc i) = refl
 idle_from c n (suc left) zero = refl
 idle_from c n (suc left) (suc i) = idle_from c (n + 1) left i
 
-start_owner : (c : Config) (o : ℕ) → owner_at (start c) o ≡ no_owner
+pub start_owner : (c : Config) (o : ℕ) → owner_at (start c) o ≡ no_owner
 start_owner c zero = refl
 start_owner c (suc o) = refl
 

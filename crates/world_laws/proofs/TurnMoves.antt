@@ -30,7 +30,7 @@ use Rattle.world_laws.proofs.Doings.{Changed, Heard, Beginning, Resting, Working
 use Rattle.rss_tables.specs.Lines.{tells_decision, Line}
 use Rattle.rss_tables.specs.TransactionSession.{shown_reply, TxnSession, txn_end, txn_wakes, txn_passes, waiting_time}
 use Rattle.rss_machine.specs.Calls.{replies, ends_at, forgets_if, txn_turns, snap_turns}
-use Rattle.rss_machine.specs.Moves.{marks_message, sends_one, sends, plans_stub, listens, counts_act, dies, closed, forgets, turns_session, goes_on}
+use Rattle.rss_machine.specs.Moves.{marks_message, sends_one, sends, plans_stub, listens, counts_act, counts_loss, dies, closed, forgets, turns_session, goes_on}
 use Rattle.rss_machine.specs.Session.{Session}
 use Rattle.rss_machine.specs.Slots.{slot_in}
 use Rattle.rss_machine.specs.Standing.{is_running}
@@ -143,24 +143,89 @@ pub record StepMoves (c : Config) (at : Reading) (A : OwnerFate → Type 0) (F P
   pub unfit : (s : State) (o : ℕ) (f : RegSession) (e : RegEnd) → session_at s o ≡ session.Register f → f.phase ≡ phase.Done e → can_end f.work e ≡ false → D s o → P s
   pub turns : (s t : State) (o : ℕ) → A (owner_at s o).fate → ShardTurn c at s o t → P s → P t
 
--- what all moves keep, turns keep
-module _ (c : Config) (at : Reading) (A : OwnerFate → Type 0) (F P : State → Type 0) (R D : State → ℕ → Type 0) (k : AllMoves c at A F P R D) where
+-- what the walk asks for: the same, but that a loss is counted and that the request is sent again for it are one
+-- move, so that what a request costs can be weighed against the loss
+pub record WalkMoves (c : Config) (at : Reading) (A : OwnerFate → Type 0) (F P : State → Type 0) (R D : State → ℕ → Type 0) : Type 1 where
+  pub E : State → ℕ → Type 0
+  pub ready : (s : State) (o : ℕ) (x : Op) → (owner_at s o).works.left ≡ [] → (owner_at s o).kind ≡ kind.Calling x → (owner_at s o).works.enter ≡ false → R s o → E s o
+  pub clears : (s t : State) (o : ℕ) (x : Op) (r : RegSession) (e : RegEnd) → o < length s.owners → A (owner_at s o).fate → (owner_at s o).kind ≡ kind.Calling x → (owner_at s o).works.left ≡ [] → session_at s o ≡ session.Fixing r → phase_end r.phase ≡ Some e → (owner_at s o).currents ≡ no_currents
+      → Quiet s t → t.owners ≡ set s.owners o (cleared_owner s o) → P s → R t o → E t o
+  pub acting : (s : State) (n o : ℕ) → (stage_at s n).owner ≡ Some o → P s → A (owner_at s o).fate
+  pub heard : (s : State) (o slot exchange : ℕ) → slot_in (owner_at s o).currents exchange ≡ Some slot → P s → A (owner_at s o).fate
+  pub runs : (f : OwnerFate) → is_running f ≡ true → A f
+  pub counted : (s : State) (n : ℕ) → F s → F (counts_act s n)
+  pub fates : (s : State) (m : ℕ) (f : Fate) → P s → P (marks_message s m f)
+  pub again : (s : State) (o exchange slot : ℕ) (target : Target) (r : Request) → A (owner_at s o).fate → IsAgain (counts_loss s o target) o exchange slot target r → P s → P (sends_one (counts_loss s o target) o (record { slot = Some slot; target = target; request = r }))
+  pub stages : (s t : State) → StageMove c s t → Changed [] s.owners s t → P s → P t
+  pub dies : (s : State) (n : ℕ) (how : How) (f : OwnerFate) → Dying A s n how f → P s → P (dies s n how f)
+  pub begins : (s t : State) (w : Owner) (b : Beginning c s w) → BeginNotes c s w b t → F s → Changed [] (s.owners ++ w ∷ []) s t → P s → R t (length s.owners)
+  pub rests : (s t : State) (o : ℕ) (w : Owner) → o < length s.owners → A (owner_at s o).fate → (b : Resting s o w) → RestingNotes at s o w b → Quiet s t → Changed [] (set s.owners o w) s t → P s → R t o
+  pub settles : (s : State) (o slot : ℕ) (attempt : Attempt) (shards : List ℕ) (outcome : Outcome) → o < length s.owners → A (owner_at s o).fate → session_at s o ≡ session.Settling attempt shards → Heard s o slot (reply.Decided outcome) → P s →
+      R (plans_stub (sends (listens s o slot) o (tells_decision attempt outcome shards)) o) o
+  pub settled : (s : State) (o : ℕ) → R s o → P s
+  pub works : (s t : State) (o : ℕ) (w : Owner) → o < length s.owners → Working at s o w → Quiet s t → Changed [] (set s.owners o w) s t → R s o → R t o
+  pub leaves : (s t : State) (o : ℕ) (w : Owner) (outs : List Out) → o < length s.owners → (b : Leaving c at s o w outs) → LeavingNotes c at s o w outs b t → LaunchNotes E c at s o w outs b → Changed [] (set s.owners o w) s t → R s o → P (sends t o outs)
+  pub does : (s t : State) (o : ℕ) (w : Owner) (outs : List Out) (new : List Dep) → A (owner_at s o).fate → (b : Doing s o w outs new) → IsNoTurn s o w outs new b → DoingNotes c s o w outs new b t → Changed new (set s.owners o w) s t → P s → P (sends t o outs)
+  pub reaches : (s t : State) (o : ℕ) (f : RegSession) (slot : ℕ) (r : Reply) (e : RegEnd) → o < length s.owners → A (owner_at s o).fate → session_at s o ≡ session.Register f → Heard s o slot r → phase_end (session_after f (slot_replica slot) r).phase ≡ Some e
+      → Quiet s t → Changed [] (set s.owners o (ended_to s o f slot r)) s t → P s → D t o
+  pub reads : (s t : State) (o : ℕ) (f : RegSession) (key : Key) (cell : RegReply) (dep : Option Dep) → A (owner_at s o).fate → session_at s o ≡ session.Register f → f.work ≡ work.Read key → f.phase ≡ phase.Done (ends.Read cell dep)
+      → t ≡ replies c s o (record { key = key; value = cell.value; writer = cell.writer } ∷ []) (after_read (owner_at s o).works.copy key.service dep) → Changed (given_dep dep) (set s.owners o (closed s o Ended)) s t → D s o → P t
+  pub writes : (s t : State) (o : ℕ) (f : RegSession) (key : Key) (value : ℕ) (stamp : Carstamp) → A (owner_at s o).fate → session_at s o ≡ session.Register f → f.work ≡ work.Write key value → f.phase ≡ phase.Done (ends.Written stamp)
+      → t ≡ replies c s o [] (after_write (owner_at s o).works.copy key.service) → Changed [] (set s.owners o (closed s o Ended)) s t → D s o → P t
+  pub unfit : (s : State) (o : ℕ) (f : RegSession) (e : RegEnd) → session_at s o ≡ session.Register f → f.phase ≡ phase.Done e → can_end f.work e ≡ false → D s o → P s
+  pub turns : (s t : State) (o : ℕ) → A (owner_at s o).fate → ShardTurn c at s o t → P s → P t
+
+-- a loss that is counted, and then the request that is sent again
+module _ (c : Config) (at : Reading) (A : OwnerFate → Type 0) (F P : State → Type 0) (R D : State → ℕ → Type 0) (k : StepMoves c at A F P R D) where
+  again_counted : (s : State) (o exchange slot : ℕ) (target : Target) (r : Request) → A (owner_at s o).fate → IsAgain (counts_loss s o target) o exchange slot target r → P s → P (sends_one (counts_loss s o target) o (record { slot = Some slot; target = target; request = r }))
+  again_counted s o exchange slot target r g d h =
+      k.again (counts_loss s o target) o exchange slot target r d (k.does s (counts_loss s o target) o _ [] [] g (counts_one target) tt (quiet refl refl refl) (kept_changed s o _ refl) h)
+
+  pub walk_moves : WalkMoves c at A F P R D
+  walk_moves = record {
+    E = k.E;
+    ready = k.ready;
+    clears = k.clears;
+    acting = k.acting;
+    heard = k.heard;
+    runs = k.runs;
+    counted = k.counted;
+    fates = k.fates;
+    again = again_counted;
+    stages = k.stages;
+    dies = k.dies;
+    begins = k.begins;
+    rests = k.rests;
+    settles = k.settles;
+    settled = k.settled;
+    works = k.works;
+    leaves = k.leaves;
+    does = k.does;
+    reaches = k.reaches;
+    reads = k.reads;
+    writes = k.writes;
+    unfit = k.unfit;
+    turns = k.turns;
+  }
+
+-- what owners keep by all that they do, turns keep
+module _ (c : Config) (at : Reading) (A : OwnerFate → Type 0) (P : State → Type 0) (does : (s t : State) (o : ℕ) (w : Owner) (outs : List Out) (new : List Dep) → A (owner_at s o).fate → (b : Doing s o w outs new) → DoingNotes c s o w outs new b t → Changed new (set s.owners o w) s t → P s → P (sends t o outs)) where
   w_txn_ends : (s : State) (o : ℕ) (t : TxnSession) → A (owner_at s o).fate → session_at s o ≡ session.Transaction t → (x : OwnerKind) → (owner_at s o).kind ≡ x → (time : Option ℕ) → txn_end t.phase ≡ time → P s → P (ends_at c s o x (shown_reply t.reads t.lines) time)
   w_txn_ends s o t g a (kind.Calling x) b (Some time) d h =
-      k.does s _ o (closed s o Ended) [] [] g (txn_ends x t time b a d) refl (ends_changed [] s o _ (closed s o Ended) _ _ refl (λ G n y. copy_holds G s o y)) h
+      does s _ o (closed s o Ended) [] [] g (txn_ends x t time b a d) refl (ends_changed [] s o _ (closed s o Ended) _ _ refl (λ G n y. copy_holds G s o y)) h
   w_txn_ends s o t g a (kind.Calling x) b None d h = h
   w_txn_ends s o t g a kind.Fencing b time d h = h
   w_txn_ends s o t g a (kind.Stubbing u) b time d h = h
 
   w_snap_ends : (s : State) (o : ℕ) (t : SnapSession) → A (owner_at s o).fate → session_at s o ≡ session.Snapshot t → (x : OwnerKind) → (owner_at s o).kind ≡ x → (time : Option ℕ) → snap_end t.phase ≡ time → P s → P (ends_at c s o x (shown_reply t.keys t.lines) time)
   w_snap_ends s o t g a (kind.Calling x) b (Some time) d h =
-      k.does s _ o (closed s o Ended) [] [] g (snap_ends x t time b a d) refl (ends_changed [] s o _ (closed s o Ended) _ _ refl (λ G n y. copy_holds G s o y)) h
+      does s _ o (closed s o Ended) [] [] g (snap_ends x t time b a d) refl (ends_changed [] s o _ (closed s o Ended) _ _ refl (λ G n y. copy_holds G s o y)) h
   w_snap_ends s o t g a (kind.Calling x) b None d h = h
   w_snap_ends s o t g a kind.Fencing b time d h = h
   w_snap_ends s o t g a (kind.Stubbing u) b time d h = h
 
   w_forgets_if : (b : Bool) (s : State) (o : ℕ) → A (owner_at s o).fate → P s → P (forgets_if b s o)
-  w_forgets_if true s o g h = k.does s (forgets s o) o (record (owner_at s o) { currents = no_currents }) [] [] g forgets_all (quiet refl refl refl) (kept_changed s o _ refl) h
+  w_forgets_if true s o g h = does s (forgets s o) o (record (owner_at s o) { currents = no_currents }) [] [] g forgets_all (quiet refl refl refl) (kept_changed s o _ refl) h
   w_forgets_if false s o g h = h
 
   forgets_session : (b : Bool) (s : State) (o : ℕ) → session_at (forgets_if b s o) o ≡ session_at s o
@@ -192,7 +257,7 @@ module _ (c : Config) (at : Reading) (A : OwnerFate → Type 0) (F P : State →
       turned_fate s o x = grind (arith, looks)
 
   w_goes_on : (s : State) (o : ℕ) (x : Session) (outs : List Out) → A (owner_at s o).fate → ShardTurning s o x outs → P s → P (goes_on s o x outs)
-  w_goes_on s o x outs g y h = k.does s (turns_session s o x) o (turned s o x) outs [] g (turns x outs y) (quiet refl refl refl) (kept_changed s o (turned s o x) refl) h
+  w_goes_on s o x outs g y h = does s (turns_session s o x) o (turned s o x) outs [] g (turns x outs y) (quiet refl refl refl) (kept_changed s o (turned s o x) refl) h
 
   forgets_there : (b : Bool) (s : State) (o : ℕ) → o < length s.owners → o < length (forgets_if b s o).owners
   forgets_there true s o i = there_own s o _ i
@@ -229,9 +294,9 @@ module _ (c : Config) (at : Reading) (A : OwnerFate → Type 0) (F P : State →
   listens_session s o slot = grind (arith, looks)
 
   w_listens : (s : State) (o slot : ℕ) (r : Reply) → A (owner_at s o).fate → Heard s o slot r → P s → P (listens s o slot)
-  w_listens s o slot r g d h = k.does s (listens s o slot) o (listened s o slot) [] [] g (listens_one slot r d) (quiet refl refl refl) (kept_changed s o (listened s o slot) refl) h
+  w_listens s o slot r g d h = does s (listens s o slot) o (listened s o slot) [] [] g (listens_one slot r d) (quiet refl refl refl) (kept_changed s o (listened s o slot) refl) h
 
-  w_turns : (s t : State) (o : ℕ) → A (owner_at s o).fate → ShardTurn c at s o t → P s → P t
+  pub w_turns : (s t : State) (o : ℕ) → A (owner_at s o).fate → ShardTurn c at s o t → P s → P t
   w_turns s _ o g (txn_answered t slot r e d) h =
       w_txn_turns (listens s o slot) o (txn_hears t (line_at t.lines (slot_shard slot)) at r) (there_own s o (listened s o slot) (txn_there s o t e)) (subst A (sym (listens_fate s o slot)) g)
       (λ u i. txn_heard t (line_at t.lines (slot_shard slot)) at r (i ∙ (listens_session s o slot ∙ e))) (w_listens s o slot r g d h)
@@ -242,6 +307,8 @@ module _ (c : Config) (at : Reading) (A : OwnerFate → Type 0) (F P : State →
   w_turns s _ o g (snap_wakes_one t l e b) h = w_snap_turns s o (snap_wakes t l) (snap_there s o t e) g (λ u i. snap_woken t l (i ∙ e)) h
   w_turns s _ o g (txn_passes_time t time e a b) h = w_txn_turns s o (txn_passes t t.phase) (txn_there s o t e) g (λ u i. txn_passed t (i ∙ e)) h
 
+-- and all moves
+module _ (c : Config) (at : Reading) (A : OwnerFate → Type 0) (F P : State → Type 0) (R D : State → ℕ → Type 0) (k : AllMoves c at A F P R D) where
   pub step_moves : StepMoves c at A F P R D
   step_moves = record {
     E = λ s o. ⊤;
@@ -266,5 +333,5 @@ module _ (c : Config) (at : Reading) (A : OwnerFate → Type 0) (F P : State →
     reads = k.reads;
     writes = k.writes;
     unfit = k.unfit;
-    turns = w_turns;
+    turns = w_turns c at A P k.does;
   }
