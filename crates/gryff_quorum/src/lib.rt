@@ -7,8 +7,6 @@ mod laws;
 mod round;
 mod session;
 mod spare_list;
-#[cfg(test)]
-mod tests;
 
 pub use dep_lists::DepLists;
 pub use round::Round;

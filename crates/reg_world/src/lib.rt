@@ -6,8 +6,6 @@ mod majority;
 mod marks;
 mod registers;
 mod service;
-#[cfg(test)]
-mod tests;
 mod world;
 
 pub use laws::{reads_as_the_machine, serves_as_the_machine};

@@ -5,8 +5,6 @@ mod call;
 mod laws;
 mod next;
 mod stage;
-#[cfg(test)]
-mod tests;
 
 pub use call::StageCall;
 pub use laws::register_statements_are_kept;

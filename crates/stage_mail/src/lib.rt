@@ -4,7 +4,5 @@
 mod lists;
 mod mail;
 mod numbers;
-#[cfg(test)]
-mod tests;
 
 pub use mail::Mail;

@@ -5,8 +5,6 @@ mod doing;
 mod kind;
 mod owner;
 mod slots;
-#[cfg(test)]
-mod tests;
 
 pub use doing::Doing;
 pub use kind::Kind;

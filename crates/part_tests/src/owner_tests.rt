@@ -1,6 +1,5 @@
 //! Owners as a machine calls them.
 
-use crate::Owner;
 use gryff_quorum::RegSession;
 use register_context::RegisterContext;
 use rss_names::{Key, ReplicaId, Seq, ServiceId, StageId, Target};
@@ -9,11 +8,20 @@ use rss_wire::{Net, Outbox, Reply, Request};
 use stage_machine::StageCall;
 use std::alloc::AllocError;
 use std::test::Fail;
+use world_owners::Owner;
 
 const X: Key = Key {
     service: ServiceId::Reg(1),
     index: 0,
 };
+
+// Whether an owner awaits the reply of this replica in an exchange.
+fn is_awaited(owner: &Owner, exchange: u32, replica: ReplicaId) -> bool {
+    match owner.awaited(exchange) {
+        Some(awaited) => awaited.number() == replica.number(),
+        None => false,
+    }
+}
 
 #[test]
 fn a_replica_that_is_cut_off_is_awaited_no_more(rt: HostRuntime) -> Result<(), Fail> {
@@ -37,10 +45,10 @@ fn a_replica_that_is_cut_off_is_awaited_no_more(rt: HostRuntime) -> Result<(), F
     );
     owner.await_reply(first, lost);
     owner.await_reply(third, other);
-    assert_eq!(rt; owner.awaited(lost), Some(first));
+    assert!(rt; is_awaited(&owner, lost, first));
     owner.cut_off(&net, X.service, first);
-    assert_eq!(rt; owner.awaited(lost), None);
-    assert_eq!(rt; owner.awaited(other), Some(third));
+    assert!(rt; owner.awaited(lost).is_none());
+    assert!(rt; is_awaited(&owner, other, third));
     Ok(())
 }
 
@@ -82,8 +90,8 @@ fn a_call_ends_its_round_of_dependencies(rt: HostRuntime) -> Result<(), Fail> {
     owner.fix(rounds);
     assert_eq!(rt; owner.is_fixing(), true);
     owner.hear(replica, &Reply::Fixed, &mut out);
-    assert_eq!(rt; owner.result(), Some(RegEnd::Fixed));
+    assert!(rt; matches!(owner.result(), Some(RegEnd::Fixed)));
     owner.clear();
-    assert_eq!(rt; owner.result(), None);
+    assert!(rt; owner.result().is_none());
     Ok(())
 }

@@ -1,8 +1,8 @@
 //! That ample memory is enough for a round of dependencies.
 
-use crate::{DepLists, RegSession};
 use carstamps::Carstamp;
 use causal_context::Dep;
+use gryff_quorum::{DepLists, RegSession};
 use rss_names::{Key, Seq, ServiceId};
 use rss_tables::RegWork;
 use rss_wire::Outbox;

@@ -1,8 +1,8 @@
 //! The net as a machine calls it.
 
-use crate::Mail;
 use rss_names::{Key, ReplicaId, ServiceId, StageId, Target};
 use rss_wire::{Envelope, Reply, Request};
+use stage_mail::Mail;
 use std::alloc::AllocError;
 use std::test::Fail;
 
