@@ -12,11 +12,21 @@ use std::marker::Model;
 
 /// Empty lists with room for dependencies. Contracts see how many there are, and for how many
 /// dependencies each has room at least.
-#[derive(Drop)]
 pub struct DepLists {
     alloc: Global,
     lists: Vec<SpareList>,
     width: usize,
+}
+
+// Written out, so that a caller who lets spare lists go sees one call and none of its parts.
+impl Drop for DepLists {
+    fn drop(self) {
+        let DepLists {
+            alloc: _alloc,
+            lists: _lists,
+            width: _width,
+        } = self;
+    }
 }
 
 impl Model for DepLists {

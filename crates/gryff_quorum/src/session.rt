@@ -29,13 +29,25 @@ const MOST_REPLICAS: usize = 7;
 
 /// The rounds of a read, of a write, or of dependencies over the replicas of one register service.
 /// Contracts see it as the tables' session.
-#[derive(Drop)]
 pub struct RegSession {
     call: u32,
     work: RegWork,
     service: ServiceId,
     round: Round,
     phase: RegPhase,
+}
+
+// Written out, so that a caller who lets a session go sees one call and none of its parts.
+impl Drop for RegSession {
+    fn drop(self) {
+        let RegSession {
+            call: _call,
+            work: _work,
+            service: _service,
+            round: _round,
+            phase: _phase,
+        } = self;
+    }
 }
 
 impl Model for RegSession {

@@ -30,7 +30,6 @@ const VARIABLES: usize = 256;
 
 /// A stage whose script sets variables, reads and writes registers, and exits. Contracts see it as
 /// the tables' stage; no block is open in its script.
-#[derive(Drop)]
 pub struct Stage {
     life: Life,
     position: usize,
@@ -39,6 +38,21 @@ pub struct Stage {
     owner: Option<u32>,
     acts: u32,
     stub: Option<u32>,
+}
+
+// Written out, so that a caller who lets a stage go sees one call and none of its parts.
+impl Drop for Stage {
+    fn drop(self) {
+        let Stage {
+            life: _life,
+            position: _position,
+            variables: _variables,
+            context: _context,
+            owner: _owner,
+            acts: _acts,
+            stub: _stub,
+        } = self;
+    }
 }
 
 impl Model for Stage {

@@ -39,7 +39,6 @@ use std::marker::Model;
 /// An owner of messages with replicas: a call of a register, which first stores the dependencies of
 /// its context, if there are any, or a stub that has not planned its fences. Contracts see it as the
 /// tables' owner; it has no works, and awaits no shard.
-#[derive(Drop)]
 pub struct Owner {
     stage: StageId,
     kind: Kind,
@@ -51,6 +50,24 @@ pub struct Owner {
     losses: Losses,
     dates: Dates,
     stored: bool,
+}
+
+// Written out, so that a caller who lets an owner go sees one call and none of its parts.
+impl Drop for Owner {
+    fn drop(self) {
+        let Owner {
+            stage: _stage,
+            kind: _kind,
+            fate: _fate,
+            started: _started,
+            context: _context,
+            doing: _doing,
+            currents: _currents,
+            losses: _losses,
+            dates: _dates,
+            stored: _stored,
+        } = self;
+    }
 }
 
 impl Model for Owner {
@@ -115,13 +132,6 @@ impl Owner {
             OwnerFate::Running => true,
             OwnerFate::Ended | OwnerFate::Dropped | OwnerFate::CutOff(_) => false,
         }
-    }
-
-    /// Whether it has started: a stub begins unstarted.
-    pub fn started(&self) -> bool
-        ensures { result ≡ self.now.started }
-    {
-        self.started
     }
 
     /// Its copy of the context of its stage. It has no works.
