@@ -36,6 +36,7 @@ pub mod OwnerWalk
 pub mod Beside
 pub mod ToldRuns
 pub mod ToldSteps
+pub mod Rising
 pub mod ToldLaws
 pub mod CallWalk
 pub mod Scripts
@@ -53,3 +54,4 @@ pub mod StackRuns
 pub mod Waits
 pub mod Towards
 pub mod Under
+pub mod Sound

@@ -25,16 +25,8 @@ use Rattle.rss_machine.specs.declared.session.Session.TheVariants as session
 use Rattle.rss_machine.specs.declared.state.Dates.{Dates}
 use Rattle.rss_machine.specs.declared.state.OwnerFate.{OwnerFate}
 use Rattle.world_laws.specs.Calls.{is_call, is_stub, DatesInTurn}
+pub use Rattle.world_laws.specs.Calls.{is_own}
 use Rattle.world_laws.proofs.StageMoves.{can_end}
-
--- whether what an owner has under way is a call's own
-abbrev pub is_own : Session → Bool
-is_own session.Idle = false
-is_own (session.Fixing r) = false
-is_own (session.Register r) = true
-is_own (session.Transaction t) = true
-is_own (session.Snapshot t) = true
-is_own (session.Settling attempt shards) = false
 
 -- the work of a call's rounds is its operation's
 abbrev pub WorkFits : RegWork → OwnerKind → Type 0

@@ -5,6 +5,7 @@ use Rattle.truetime.specs.Reading.{Reading}
 use Rattle.rss_names.specs.declared.attempt.Attempt.{Attempt}
 use Rattle.rss_names.specs.declared.service.ServiceId.{ServiceId}
 use Rattle.pipeline_lang.specs.declared.config.Config.{Config}
+use Rattle.rss_model.specs.declared.op.Op.{Op}
 use Rattle.rss_wire.specs.Messages.{message_at}
 use Rattle.rss_wire.specs.declared.messages.Outcome.{Outcome}
 use Rattle.rss_tables.specs.Lines.{tells_decision}
@@ -20,9 +21,11 @@ use Rattle.world_laws.proofs.Doings.{listened}
 use Rattle.std.proofs.Common.{arith}
 use Rattle.std.proofs.lemmas.Bool.{true≢false}
 use Rattle.rss_tables.specs.Works.{planned, plan_all}
+use Rattle.causal_context.specs.Services.{has_service}
 use Rattle.rss_machine.specs.Session.{service_of}
 use Rattle.rss_machine.specs.State.{owner_at}
 use Rattle.rss_machine.specs.declared.session.OwnerKind.{OwnerKind}
+use Rattle.rss_machine.specs.declared.session.OwnerKind.TheVariants as kind
 use Rattle.world_laws.specs.Calls.{is_stub}
 use Rattle.world_laws.specs.Planned.{called_service, is_settling, has_planned, WorksPlanned}
 use Rattle.world_laws.proofs.Doings.{Beginning, calls, fences}
@@ -154,11 +157,8 @@ planned_all c steps s e = kept_run c AllPlanned PlannedAt (planned_kept c) each 
 pub planned_run : (c : Config) (steps : List Step) (s : State) → run c steps ≡ Some s → WorksPlanned s
 planned_run c steps s e = record {
   each = λ o. (all o).works;
-  own = λ o x r k y.
-      let fits = (told_run c steps s e).told.fits o in
-      let left : (owner_at s o).works.left ≡ [] = fits.done (ap is_own y) in
-      let p = (all o).works (ap (λ (z : OwnerKind). has_planned z (owner_at s o).started (session_at s o)) k) in
-      (left, λ id f. same_own (service_of x) id (ap called_service (sym k) ∙ own_last (called_service (owner_at s o).kind) (owner_at s o).works left p id f));
+  own = λ o x r k y. alone o x k (ap is_own y);
+  alone = alone;
 }
   where
     same_own : (a b : ServiceId) → Some a ≡ Some b → a ≡ b
@@ -173,3 +173,9 @@ planned_run c steps s e = record {
 
     all : AllPlanned s
     all = kept_run c AllPlanned PlannedAt (planned_kept c) each steps s e
+
+    alone : (o : ℕ) (x : Op) → (owner_at s o).kind ≡ kind.Calling x → is_own (session_at s o) ≡ true → ((owner_at s o).works.left ≡ []) × ((id : ServiceId) → has_service (owner_at s o).works.copy.last.services id ≡ true → service_of x ≡ id)
+    alone o x k y =
+        let left : (owner_at s o).works.left ≡ [] = ((told_run c steps s e).told.fits o).done y in
+        let p = (all o).works (ap (λ (z : OwnerKind). has_planned z (owner_at s o).started (session_at s o)) k) in
+        (left, λ id f. same_own (service_of x) id (ap called_service (sym k) ∙ own_last (called_service (owner_at s o).kind) (owner_at s o).works left p id f))

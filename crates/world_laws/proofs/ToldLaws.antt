@@ -42,6 +42,7 @@ use Rattle.rss_model.specs.History.{entry_at, has_begun, op_of, reply_of}
 use Rattle.rss_model.specs.Stages.{stage_of}
 use Rattle.rss_machine.specs.Moves.{serves_shard, serves_replica, notes_served}
 use Rattle.world_laws.specs.Calls.{HistoryTells, DatesTell}
+use Rattle.world_laws.proofs.Rising.{rising_run}
 use Rattle.world_laws.proofs.Entries.{entries_same, onward_same}
 use Rattle.world_laws.proofs.Histories.{begin_in, end_in}
 use Rattle.world_laws.proofs.OwnerFits.{own_is_call}
@@ -251,7 +252,9 @@ pub dates_run : (c : Config) (steps : List Step) (s : State) → run c steps ≡
 dates_run c steps s e = record {
   each = λ o. (h.told.fits o).dates;
   launched = λ o r a. (h.told.fits o).launched (ap is_own a);
+  sent = λ o. (h.told.fits o).launched;
   one_at_a_time = h.told.turns;
+  rise = (rising_run c steps s e).rise;
 }
   where
     h : AllTold s

@@ -113,13 +113,25 @@ pub record DatesInTurn (steps : ℕ) (running : Bool) (d : Dates) : Type 0 where
   pub runs : running ≡ true → d.ended ≡ 0
   pub is_over : running ≡ false → (d.begun ≤ d.ended) × (d.entered ≤ d.ended) × (d.launched ≤ d.ended)
 
--- the dates of all owners; what a call has under way of its own, it has sent; and of two calls or fence statements
--- of one stage the earlier was over in an earlier step than the later began
+-- whether what an owner has under way is a call's own
+abbrev pub is_own : Session → Bool
+is_own session.Idle = false
+is_own (session.Fixing r) = false
+is_own (session.Register r) = true
+is_own (session.Transaction t) = true
+is_own (session.Snapshot t) = true
+is_own (session.Settling attempt shards) = false
+
+-- the dates of all owners; what a call has under way of its own, it has sent; of two calls or fence statements of one
+-- stage the earlier was over in an earlier step than the later began; and owners are numbered in the order in which they
+-- begin
 pub record DatesTell (s : State) : Type 0 where
   pub each : (o : ℕ) → DatesInTurn s.steps (is_running (owner_at s o).fate) (owner_at s o).dates
   pub launched : (o : ℕ) (r : RegSession) → (owner_at s o).session ≡ session.Register r → 0 < (owner_at s o).dates.launched
+  pub sent : (o : ℕ) → is_own (owner_at s o).session ≡ true → 0 < (owner_at s o).dates.launched
   pub one_at_a_time : (a b : ℕ) → 0 < a → a < b → is_stub (owner_at s a).kind ≡ false → is_stub (owner_at s b).kind ≡ false → b < length s.owners → (owner_at s a).stage - 1 ≡ (owner_at s b).stage - 1
       → (is_running (owner_at s a).fate ≡ false) × ((owner_at s a).dates.ended < (owner_at s b).dates.begun)
+  pub rise : (a b : ℕ) → a ≤ b → b < length s.owners → (owner_at s a).dates.begun ≤ (owner_at s b).dates.begun
 
 -- what an owner keeps once it has begun, and once it is over
 pub record Kept (v w : Owner) : Type 0 where

@@ -17,6 +17,7 @@ use Rattle.rss_machine.specs.State.{State, owner_at}
 use Rattle.rss_machine.specs.declared.session.OwnerKind.{OwnerKind}
 use Rattle.rss_machine.specs.declared.session.OwnerKind.TheVariants as kind
 use Rattle.rss_machine.specs.declared.session.Session.TheVariants as session
+use Rattle.world_laws.specs.Calls.{is_own}
 
 -- whether one of these works is the fence of a service
 abbrev pub has_work : List (ServiceId × FenceWork) → ServiceId → Bool
@@ -66,3 +67,4 @@ has_planned (kind.Stubbing u) started s = started && not (is_settling s)
 pub record WorksPlanned (s : State) : Type 0 where
   pub each : (o : ℕ) → has_planned (owner_at s o).kind (owner_at s o).started (owner_at s o).session ≡ true → ArePlanned (called_service (owner_at s o).kind) (owner_at s o).works
   pub own : (o : ℕ) (x : Op) (r : RegSession) → (owner_at s o).kind ≡ kind.Calling x → (owner_at s o).session ≡ session.Register r → ((owner_at s o).works.left ≡ []) × ((id : ServiceId) → has_service (owner_at s o).works.copy.last.services id ≡ true → service_of x ≡ id)
+  pub alone : (o : ℕ) (x : Op) → (owner_at s o).kind ≡ kind.Calling x → is_own (owner_at s o).session ≡ true → ((owner_at s o).works.left ≡ []) × ((id : ServiceId) → has_service (owner_at s o).works.copy.last.services id ≡ true → service_of x ≡ id)

@@ -10,19 +10,22 @@ use Rattle.rss_machine.specs.declared.session.OwnerKind.TheVariants as kind
 use Rattle.rss_machine.specs.declared.step.Step.{Step}
 use Rattle.world_laws.specs.Numbered.{are_numbered}
 use Rattle.world_laws.specs.Shapes.{IsSoundFile}
-use Rattle.world_laws.specs.Sizes.{FitsSizes}
+use Rattle.world_laws.specs.Sizes.{FitsSizes, HasRoom}
 use Rattle.world_laws.specs.Stamps.{StampsUpTo}
 use Rattle.world_laws.specs.Times.{TimesUpTo}
-use Rattle.world_laws.specs.Traffic.{TrafficFits, LinksFit, OperationFits, WorksFit}
+use Rattle.world_laws.specs.Traffic.{MessagesFit, TargetsFit, LinksFit, StubsFit, OperationFits, WorksFit}
 
 -- sizes; stamps numbered up to the steps made; times below the limit of readings and a step for each; and what messages,
 -- owners, operations and works are
 pub record IsReady (c : Config) (s : State) : Type 0 where
   pub sizes : FitsSizes c s
+  pub room : HasRoom c s
   pub stamps : StampsUpTo s.steps s
   pub times : TimesUpTo (2 ^ 62 + s.steps) s
-  pub traffic : TrafficFits c s
+  pub messages : MessagesFit s
+  pub targets : TargetsFit c s
   pub links : LinksFit s
+  pub stubs : StubsFit s
   pub operations : (o : ℕ) (x : Op) → (owner_at s o).kind ≡ kind.Calling x → OperationFits c x
   pub works : WorksFit c s
 

@@ -10,8 +10,7 @@ use Rattle.rss_machine.specs.State.{State, stage_at, owner_at, pipe_at}
 use Rattle.rss_machine.specs.declared.session.Session.TheVariants as session
 
 -- a step adds one owner, thirty-two messages and eighteen entries at most, and an act of a stage, a number of a pipe, a
--- loss and an attempt of a transaction once at most; a pipe holds no more chunks than it has room for; and stages, pipes
--- and shards are as many as the file's
+-- loss and an attempt of a transaction once at most; and stages, pipes and shards are as many as the file's
 pub record FitsSizes (c : Config) (s : State) : Type 0 where
   pub steps : s.steps ≤ c.max_steps
   pub stages : length s.stages ≡ length c.bodies
@@ -22,7 +21,10 @@ pub record FitsSizes (c : Config) (s : State) : Type 0 where
   pub entries : length s.history ≤ 18 * s.steps
   pub acts : (n : ℕ) → (stage_at s n).acts ≤ s.steps
   pub next : (p : ℕ) → (pipe_at s p).next ≤ s.steps + 1
-  pub chunks : (p : ℕ) → length (pipe_at s p).chunks ≤ (ends_of c p).capacity
   pub losses : (o : ℕ) (target : Target) → losses_of (owner_at s o).losses target ≤ s.steps
   pub attempts : (o : ℕ) (t : TxnSession) → (owner_at s o).session ≡ session.Transaction t → t.k ≤ s.steps + 1
   pub ordinals : (m : ℕ) → (message_at s.net m).envelope.ordinal ≤ length s.net
+
+-- a pipe holds no more chunks than it has room for
+pub record HasRoom (c : Config) (s : State) : Type 0 where
+  pub chunks : (p : ℕ) → length (pipe_at s p).chunks ≤ (ends_of c p).capacity

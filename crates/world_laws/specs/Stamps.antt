@@ -3,6 +3,8 @@ use Rattle.std.specs.Prelude.{◌≡◌, ℕ, ◌≤◌, ⊤, get_or, Option, So
 use Rattle.std.specs.List.{All}
 use Rattle.rss_names.specs.declared.service.Key.{Key}
 use Rattle.rss_names.specs.declared.service.ServiceId.{ServiceId}
+use Rattle.rss_names.specs.declared.service.Target.{Target}
+use Rattle.rss_names.specs.declared.service.Target.TheVariants.{Shard, Replica}
 use Rattle.causal_context.specs.declared.dep.Dep.{Dep}
 use Rattle.rss_wire.specs.declared.message.Body.{Body}
 use Rattle.rss_wire.specs.declared.message.Body.TheVariants as body
@@ -63,9 +65,14 @@ ReplyStampsUpTo b (reply.Values versions skipped) = ⊤
 ReplyStampsUpTo b reply.Fixed = ⊤
 ReplyStampsUpTo b reply.Stored = ⊤
 
-abbrev pub BodyStampsUpTo : ℕ → Body → Type 0
-BodyStampsUpTo b (body.Request r) = RequestStampsUpTo b r
-BodyStampsUpTo b (body.Reply r) = ReplyStampsUpTo b r
+-- of a message to a target: a request counts where it is for a replica
+abbrev pub AskedStampsUpTo : ℕ → Target → Request → Type 0
+AskedStampsUpTo b (Shard shard) r = ⊤
+AskedStampsUpTo b (Replica service replica) r = RequestStampsUpTo b r
+
+abbrev pub BodyStampsUpTo : ℕ → Target → Body → Type 0
+BodyStampsUpTo b target (body.Request r) = AskedStampsUpTo b target r
+BodyStampsUpTo b target (body.Reply r) = ReplyStampsUpTo b r
 
 -- of the work and of the phase of a register session
 abbrev pub WorkStampsUpTo : ℕ → RegWork → Type 0
@@ -105,7 +112,7 @@ SessionStampsUpTo b (session.Settling attempt shards) = ⊤
 
 -- of a state
 pub record StampsUpTo (b : ℕ) (s : State) : Type 0 where
-  pub told : (m : ℕ) → BodyStampsUpTo b (message_at s.net m).body
+  pub told : (m : ℕ) → BodyStampsUpTo b (message_at s.net m).envelope.target (message_at s.net m).body
   pub sessions : (o : ℕ) → SessionStampsUpTo b (owner_at s o).session
   pub held : (service : ServiceId) (replica : ℕ) (key : Key) → (held_at (cells_at s service replica) key).stamp.number ≤ b
   pub depended : AllDeps (DepUpTo b) s

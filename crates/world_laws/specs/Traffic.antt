@@ -60,13 +60,15 @@ abbrev pub AsksOwn : Config → Target → Request → Type 0
 AsksOwn c (Shard shard) r = All (LivesOn c shard) (request_keys r)
 AsksOwn c (Replica service replica) r = ⊤
 
--- place 0 holds no message; a message is between an owner that has begun, from 1 on, and a target of the file; its exchange
--- is a request that was sent; and a shard is asked about its own keys
-pub record TrafficFits (c : Config) (s : State) : Type 0 where
+-- place 0 holds no message; a message is of an owner that has begun, from 1 on; and its exchange is a request that was sent
+pub record MessagesFit (s : State) : Type 0 where
   pub first : (message_at s.net 0).envelope ≡ no_message.envelope
   pub owned : (m : ℕ) → is_sent s.net m ≡ true → 1 ≤ (message_at s.net m).envelope.owner
   pub begun : (m : ℕ) → is_sent s.net m ≡ true → (message_at s.net m).envelope.owner < length s.owners
   pub exchanges : (m : ℕ) → is_sent s.net m ≡ true → is_some (request_at s.net (message_at s.net m).envelope.exchange) ≡ true
+
+-- a message is with a target of the file, and a shard is asked about its own keys
+pub record TargetsFit (c : Config) (s : State) : Type 0 where
   pub targets : (m : ℕ) → is_sent s.net m ≡ true → IsTargetOf c (message_at s.net m).envelope.target
   pub keys : (m : ℕ) (r : Request) → request_at s.net m ≡ Some r → AsksOwn c (message_at s.net m).envelope.target r
 
@@ -82,16 +84,18 @@ pub record IsCurrentOf (s : State) (o exchange : ℕ) : Type 0 where
   pub owner : (message_at s.net exchange).envelope.owner ≡ o
   pub request : (message_at s.net exchange).envelope.request ≡ true
 
--- what a stage has under way is numbered from 1; the stub of a stage is one of it, and the stage is over; a current exchange
--- is its owner's; an owner that is over has none; and a round of dependencies stores them
+-- what a stage has under way is numbered from 1; a current exchange is its owner's; and an owner that is over has none
 pub record LinksFit (s : State) : Type 0 where
   pub own : StagesOwn s
   pub called : (n o : ℕ) → (stage_at s n).owner ≡ Some o → 1 ≤ o
+  pub currents : (o slot exchange : ℕ) → get_or (owner_at s o).currents slot None ≡ Some exchange → IsCurrentOf s o exchange
+  pub quiet : (o slot : ℕ) → is_running (owner_at s o).fate ≡ false → get_or (owner_at s o).currents slot None ≡ None
+
+-- the stub of a stage is one of it, and the stage is over; and a round of dependencies stores them
+pub record StubsFit (s : State) : Type 0 where
   pub stubs : (n o : ℕ) → (stage_at s n).stub ≡ Some o → is_stub (owner_at s o).kind ≡ true
   pub stub_stages : (n o : ℕ) → (stage_at s n).stub ≡ Some o → (owner_at s o).stage - 1 ≡ n - 1
   pub dead : (n o : ℕ) → (stage_at s n).stub ≡ Some o → is_over (stage_at s n).life ≡ true
-  pub currents : (o slot exchange : ℕ) → get_or (owner_at s o).currents slot None ≡ Some exchange → IsCurrentOf s o exchange
-  pub quiet : (o slot : ℕ) → is_running (owner_at s o).fate ≡ false → get_or (owner_at s o).currents slot None ≡ None
   pub fixing : (o : ℕ) (r : RegSession) → (owner_at s o).session ≡ session.Fixing r → stores_deps r.work ≡ true
 
 -- an operation: of a service of the file, with keys of the file, eight in each list at most

@@ -110,9 +110,9 @@ pub fn history_tells_calls()
 {}
 
 /// In every run an owner begins, enters its service, sends its own first round and is over in this order, as
-/// far as it does, and none of it later than the steps made; a call has rounds under way only once it has
-/// sent them; and of two calls or fence statements of one stage the earlier was over in an earlier step than
-/// the later began.
+/// far as it does, and none of it later than the steps made; a call has rounds, a transaction or a snapshot
+/// under way only once it has sent its first round; owners that began later have greater numbers; and of two
+/// calls or fence statements of one stage the earlier was over in an earlier step than the later began.
 pub fn dates_stand_in_order()
     ensures { DatesStandInOrder }
 {}
@@ -132,7 +132,8 @@ pub fn owners_go_on()
 /// In every run the works that an owner has left fit its copy of a context, once it has planned them: each
 /// service that the copy used last, but the owner's own, has a work among them, and each work is what the copy
 /// owes its service, a least time, nothing or dependencies. A call has none of its own service; and where it
-/// has rounds of its own under way none are left, and its copy used no service but its own last.
+/// has rounds, a transaction or a snapshot of its own under way none are left, and its copy used no service but
+/// its own last.
 pub fn works_are_planned()
     ensures { WorksArePlanned }
 {}
