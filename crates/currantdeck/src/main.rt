@@ -2,19 +2,25 @@
 //! call at its place in the one order. `rss_cli` says what it reads and writes.
 #![tactic(auto)]
 
-use rss_cli::top;
+use rss_cli::{Status, top};
 use rss_io::{StdSink, StdSource};
 use std::alloc::Global;
 use std::process::ExitCode;
 use std::rt::Env;
 use std::{env, io};
 
-fn main(rt: HostRuntime) -> io::Result<ExitCode> {
-    let words = words(&rt, rt.alloc())?;
+fn main(rt: HostRuntime) -> ExitCode {
     let mut source = StdSource::new(rt.stdin());
     let mut sink = StdSink::new(rt.stdout());
-    let status = top(rt.alloc(), words.as_slice(), &mut source, &mut sink);
-    Ok(ExitCode::from(status.code()))
+    let status = match words(&rt, rt.alloc()) {
+        Ok(words) => top(rt.alloc(), words.as_slice(), &mut source, &mut sink),
+        // Words that are no text are no command's.
+        Err(error) if error.kind() == io::ErrorKind::InvalidData => {
+            top(rt.alloc(), &[], &mut source, &mut sink)
+        }
+        Err(_) => Status::OutOfMemory,
+    };
+    ExitCode::from(status.code())
 }
 
 // The words of the command, after the program's own name.

@@ -13,16 +13,12 @@ use Rattle.rss_cli.specs.Served.{is_served}
 use Rattle.rss_cli.specs.Statuses.{status_of}
 use Rattle.rss_cli.specs.declared.answer.Answer.{Answer}
 use Rattle.rss_cli.specs.declared.status.Status.{Status}
-use Rattle.rss_cli.proofs.Ordered.{run_is_ordered, run_follows_scripts, run_ends_where_withheld}
+use Rattle.rss_cli.proofs.Promised.{keeps_promise}
 
 is_reported : (c : Config) (steps : List Step) (w : WorldView) (text : List ℕ) (status : Status) → IsInOrder c → is_served c ≡ true → HasPlayed c steps w → IsReport w.config w.state text → status ≡ status_of (ending_of w.config w.state) → IsPlayed c steps text status
 is_reported c steps w text status n served p report ending = inl record {
-  state = w.state;
-  run = p.run;
+  promise = keeps_promise c steps w.state n served p.run p.numbered p.built;
   report = subst (λ (d : Config). IsReport d w.state text) p.config report;
-  ordered = run_is_ordered c steps w.state n served p.run.runs;
-  scripts = run_follows_scripts c steps w.state served p.numbered p.run.runs;
-  withheld = run_ends_where_withheld c steps w.state served p.built p.run.runs;
   ending = subst (λ (d : Config). status ≡ status_of (ending_of d w.state)) p.config ending;
 }
 

@@ -7,5 +7,5 @@ pub mod Turned
 pub mod Counts
 pub mod Placing
 pub mod Stages
-pub mod Ordered
+pub mod Promised
 pub mod Answered

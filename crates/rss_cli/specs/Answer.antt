@@ -1,19 +1,18 @@
 -- What the top call answers: which text and status, for which words and input.
-use Rattle.std.specs.Prelude.{ℕ, ◌≡◌, ◌≢◌, ◌<◌, ◌≤◌, ◌⊎◌, Bool, true, false, List, [], ◌∷◌, length, Option, Ok, Err, codes}
+use Rattle.std.specs.Prelude.{ℕ, ◌≡◌, ◌≢◌, ◌<◌, ◌≤◌, ◌⊎◌, Bool, true, false, List, [], ◌∷◌, length, Option, Ok, Err, All, codes}
 use Rattle.std.specs.Io.KnownBytes.{Appends, Keeps}
 use Rattle.rss_io.specs.Pieces.{AppendsFront}
 use Rattle.pipeline_lang.specs.declared.config.Config.{Config}
-use Rattle.rss_machine.specs.State.{State}
 use Rattle.rss_machine.specs.Endings.{ending_of}
+use Rattle.rss_machine.specs.Headline.{KeepsPromise}
 use Rattle.rss_machine.specs.declared.step.Step.{Step}
 use Rattle.rss_machine.specs.declared.step.StepRefusal.{StepRefusal}
-use Rattle.step_text.specs.Spelling.{text_of}
+use Rattle.step_text.specs.Spelling.{IsStep, text_of}
 use Rattle.step_text.specs.Texts.{IsBadStep}
 use Rattle.rss_cli.specs.FaultText.{fault_text}
 use Rattle.rss_cli.specs.Served.{is_served}
-use Rattle.rss_cli.specs.Played.{IsRun, IsFirstRefused}
+use Rattle.rss_cli.specs.Played.{IsFirstRefused}
 use Rattle.rss_cli.specs.Reported.{IsReport}
-use Rattle.rss_cli.specs.Ordered.{HasRegularPlaces, FollowsScripts, EndsWhereWithheld}
 use Rattle.rss_cli.specs.Split.{Splits}
 use Rattle.rss_cli.specs.Statuses.{status_of}
 use Rattle.rss_cli.specs.declared.fault.Fault.TheVariants as fault
@@ -22,17 +21,12 @@ use Rattle.pipeline_file.specs.Document.{config_of}
 use Rattle.rss_cli.specs.declared.status.Status.{Status}
 use Rattle.rss_cli.specs.declared.status.Status.TheVariants.{Done, Unfinished, Limit, Stuck, Hurt, Usage, File, BadStep, ReadFault, WriteFault, OutOfMemory}
 
--- the text reports the run of these steps, the places that it prints are a regular order for the run's
--- history, in which each stage follows its script; a call ends unavailable only where the steps withheld a quorum
--- from it; and the status is the ending's
+-- the text reports the state that these steps lead to, the run keeps what every reported run owes, and the
+-- status is the ending's
 pub record IsReported (c : Config) (steps : List Step) (text : List ℕ) (status : Status) : Type 0 where
-  pub state : State
-  pub run : IsRun c steps state
-  pub report : IsReport c state text
-  pub ordered : HasRegularPlaces state
-  pub scripts : FollowsScripts c state
-  pub withheld : EndsWhereWithheld c steps state
-  pub ending : status ≡ status_of (ending_of c state)
+  pub promise : KeepsPromise c steps
+  pub report : IsReport c promise.state text
+  pub ending : status ≡ status_of (ending_of c promise.state)
 
 -- the text names the first of these steps that the machine refuses, with the cause
 pub record IsRefusedStep (c : Config) (steps : List Step) (text : List ℕ) (status : Status) : Type 0 where
@@ -46,9 +40,10 @@ pub record IsRefusedStep (c : Config) (steps : List Step) (text : List ℕ) (sta
 abbrev pub IsPlayed : Config → List Step → List ℕ → Status → Type 0
 IsPlayed c steps text status = IsReported c steps text status ⊎ IsRefusedStep c steps text status
 
--- the step text spells these steps, and they were played
+-- the step text spells these steps, each of which the grammar has, and they were played
 pub record IsSpelled (c : Config) (behind text : List ℕ) (status : Status) : Type 0 where
   pub steps : List Step
+  pub grammar : All IsStep steps
   pub spelled : behind ≡ text_of steps
   pub played : IsPlayed c steps text status
 
@@ -129,11 +124,15 @@ pub record IsTooLong (input text : List ℕ) (status : Status) : Type 0 where
   pub told : text ≡ fault_text fault.TooLong
   pub status_is : status ≡ File
 
+-- the text tells how the program is called
+pub record IsUsageAnswer (text : List ℕ) (status : Status) : Type 0 where
+  pub told : text ≡ fault_text fault.Usage
+  pub status_is : status ≡ Usage
+
 -- the words are no command
 pub record IsUsage (words : List (List ℕ)) (text : List ℕ) (status : Status) : Type 0 where
   pub other : words ≢ codes "replay" ∷ []
-  pub told : text ≡ fault_text fault.Usage
-  pub status_is : status ≡ Usage
+  pub answer : IsUsageAnswer text status
 
 -- the words are the command that is built
 pub record IsReplay (words : List (List ℕ)) (input text : List ℕ) (status : Status) : Type 0 where
@@ -170,6 +169,13 @@ Wrote old new words input Hurt = Told old new words input Hurt
 Wrote old new words input Usage = Told old new words input Usage
 Wrote old new words input File = Told old new words input File
 Wrote old new words input BadStep = Told old new words input BadStep
+
+-- what the sink has where the words are no command: how the program is called, a front of that, or nothing
+abbrev pub WroteUsage : Option (List ℕ) → Option (List ℕ) → Status → Type 0
+WroteUsage old new Usage = Appends old new (fault_text fault.Usage)
+WroteUsage old new WriteFault = AppendsFront old new (fault_text fault.Usage)
+WroteUsage old new OutOfMemory = Keeps old new
+WroteUsage old new _ = ⊥
 
 -- whether an answer can have this status: it comes with a text
 abbrev pub is_answer : Status → Bool

@@ -4,6 +4,5 @@ pub mod Served
 pub mod Split
 pub mod Played
 pub mod Reported
-pub mod Ordered
 pub mod Pieces
 pub mod Answer

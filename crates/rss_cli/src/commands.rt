@@ -1,10 +1,10 @@
 //! The top call: words and an input in, a text and a status out.
 
-ghost use Rattle.std.specs.Prelude.{◌≡◌, ◌∷◌, [], ◌↔◌, ◌<◌, ◌≤◌, true, codes, map, length, IfOk, IfSome, IsTrue};
+ghost use Rattle.std.specs.Prelude.{◌≡◌, ◌≢◌, ◌∷◌, [], ◌↔◌, ◌<◌, ◌≤◌, true, codes, map, length, IfOk, IfSome, IsTrue, MatchResult};
 ghost use Rattle.std.specs.Io.KnownBytes.{IsAtEnd, Keeps};
 ghost use Rattle.std.specs.String.{string_bytes};
 ghost use Rattle.rss_io.specs.Faults.{Rose};
-ghost use Rattle.rss_cli.specs.Answer.{Wrote, IsAnswer, is_answer, is_report, input_limit};
+ghost use Rattle.rss_cli.specs.Answer.{Wrote, WroteUsage, IsAnswer, IsUsageAnswer, is_answer, is_report, input_limit};
 
 use crate::answer::{Answer, answer_of, fault_answer};
 use crate::fault::Fault;
@@ -29,9 +29,12 @@ pub fn top<S: Source, K: Sink>(
     ensures written { IfSome (S.left source.old) (λ input.
         Wrote (K.written sink.old) (K.written sink.new) (map string_bytes words.now) input result) }
     ensures read_to_end { IsTrue (is_report result) → IsAtEnd (S.left source.new) }
-    ensures read { result ≡ Status.ReadFault → Rose (S.source_faults source.old) (S.source_faults source.new) }
+    ensures read { result ≡ Status.ReadFault →
+        (map string_bytes words.now ≡ codes "replay" ∷ []) × Rose (S.source_faults source.old) (S.source_faults source.new) }
     ensures write { result ≡ Status.WriteFault → Rose (K.sink_faults sink.old) (K.sink_faults sink.new) }
-    ensures unread { (map string_bytes words.now ≡ codes "replay" ∷ [] → ⊥) → Keeps (S.left source.old) (S.left source.new) }
+    ensures unread { map string_bytes words.now ≢ codes "replay" ∷ [] → Keeps (S.left source.old) (S.left source.new) }
+    ensures usage { map string_bytes words.now ≢ codes "replay" ∷ [] →
+        WroteUsage (K.written sink.old) (K.written sink.new) result }
 {
     still_top(alloc, words, source, sink)
 }
@@ -47,9 +50,12 @@ pub fn still_top<S: Source, K: Sink>(
     ensures written { IfSome (S.left source.old) (λ input.
         Wrote (K.written sink.old) (K.written sink.new) (map string_bytes words.now) input result) }
     ensures read_to_end { IsTrue (is_report result) → IsAtEnd (S.left source.new) }
-    ensures read { result ≡ Status.ReadFault → Rose (S.source_faults source.old) (S.source_faults source.new) }
+    ensures read { result ≡ Status.ReadFault →
+        (map string_bytes words.now ≡ codes "replay" ∷ []) × Rose (S.source_faults source.old) (S.source_faults source.new) }
     ensures write { result ≡ Status.WriteFault → Rose (K.sink_faults sink.old) (K.sink_faults sink.new) }
-    ensures unread { (map string_bytes words.now ≡ codes "replay" ∷ [] → ⊥) → Keeps (S.left source.old) (S.left source.new) }
+    ensures unread { map string_bytes words.now ≢ codes "replay" ∷ [] → Keeps (S.left source.old) (S.left source.new) }
+    ensures usage { map string_bytes words.now ≢ codes "replay" ∷ [] →
+        WroteUsage (K.written sink.old) (K.written sink.new) result }
 {
     match respond(alloc, words, source) {
         Ok(answer) => match write_all(sink, answer.text.as_slice()) {
@@ -74,8 +80,11 @@ fn respond<S: Source>(alloc: Global, words: &[String], source: &mut S) -> Result
         IsAnswer (map string_bytes words.now) input a.text.items a.status)) }
     ensures status { IfOk result (λ a. is_answer a.status ≡ true) }
     ensures read_to_end { IfOk result (λ a. IsTrue (is_report a.status) → IsAtEnd (S.left source.new)) }
-    ensures read { result ≡ Err Halt.ReadFault → Rose (S.source_faults source.old) (S.source_faults source.new) }
-    ensures unread { (map string_bytes words.now ≡ codes "replay" ∷ [] → ⊥) → Keeps (S.left source.old) (S.left source.new) }
+    ensures read { result ≡ Err Halt.ReadFault →
+        (map string_bytes words.now ≡ codes "replay" ∷ []) × Rose (S.source_faults source.old) (S.source_faults source.new) }
+    ensures unread { map string_bytes words.now ≢ codes "replay" ∷ [] → Keeps (S.left source.old) (S.left source.new) }
+    ensures usage { map string_bytes words.now ≢ codes "replay" ∷ [] →
+        MatchResult result (λ a. IsUsageAnswer a.text.items a.status) (λ e. e ≡ Halt.OutOfMemory) }
 {
     if !is_replay(words) {
         return made(fault_answer(alloc, Fault::Usage, Status::Usage));

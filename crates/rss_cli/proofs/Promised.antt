@@ -1,11 +1,12 @@
--- The places of a run of a file that is read and that runs are a regular order.
-use Rattle.std.proofs.Common.{◌≡◌, ℕ, ◌-◌, ◌≤◌, Bool, true, false, ◌&&◌, List, [], ◌∷◌, Some, Ok, refl, sym, ap, ◌∙◌, subst, arith}
+-- Each run of a file that is read and that runs keeps what every reported run owes.
+use Rattle.std.proofs.Common.{◌≡◌, ℕ, ◌-◌, ◌≤◌, Bool, true, false, ◌&&◌, List, [], ◌∷◌, Option, Some, Ok, refl, sym, ap, ◌∙◌, subst, arith}
 use Rattle.std.specs.Prelude.{nat_le}
 use Rattle.std.specs.List.{list_all}
 use Rattle.std.proofs.lemmas.Bool.Decides.{nat_tests}
 use Rattle.std.proofs.lemmas.Bool.{false≢true, and_parts}
 use Rattle.rss_names.specs.declared.service.Key.{Key}
 use Rattle.rss_names.specs.declared.service.ServiceId.{ServiceId}
+use Rattle.rss_names.specs.declared.service.Target.{Target}
 use Rattle.rss_names.specs.declared.service.ServiceId.TheVariants.{Txn, Reg}
 use Rattle.rss_names.specs.Services.{same_service}
 use Rattle.pipeline_lang.specs.Config.{replicas_among}
@@ -14,20 +15,28 @@ use Rattle.pipeline_lang.specs.declared.config.Config.{Config}
 use Rattle.pipeline_lang.specs.declared.script.Statement.{Statement}
 use Rattle.pipeline_lang.specs.declared.script.Statement.TheVariants as statement
 use Rattle.pipeline_file.specs.Document.{config_of}
+use Rattle.rss_model.specs.declared.history.Entry.{Entry}
+use Rattle.rss_model.specs.Regular.{Regular}
+use Rattle.rss_model.specs.ScriptRun.{ScriptRun}
+use Rattle.truetime.specs.Reading.{AreConsistent}
 use Rattle.rss_machine.specs.Built.{is_built, is_built_statement, has_few_replicas}
-use Rattle.rss_machine.specs.Run.{run}
-use Rattle.rss_machine.specs.State.{State}
+use Rattle.rss_machine.specs.Headline.{KeepsPromise}
+use Rattle.rss_machine.specs.Places.{order_in}
+use Rattle.rss_machine.specs.Run.{run, history_in}
+use Rattle.rss_machine.specs.State.{State, stage_at, owner_at}
+use Rattle.rss_machine.specs.Withheld.{IsWithheld}
+use Rattle.rss_machine.specs.declared.state.OwnerFate.TheVariants.{CutOff}
 use Rattle.rss_machine.specs.declared.step.Step.{Step}
 use Rattle.reg_laws.specs.Files.{IsInOrder}
 use Rattle.built_laws.proofs.Scripts.{IsBuilt, built_is, place_service, service_is}
 use Rattle.file_laws.proofs.ReadFiles.{files_are_in_order}
 use Rattle.place_laws.specs.Alone.{KeepsTo, KeepsToServices}
+use Rattle.place_laws.specs.Laws.{HasRegularPlaces}
 use Rattle.place_laws.proofs.Regular.{regular_places}
 use Rattle.stage_laws.specs.Apart.{are_numbered}
 use Rattle.stage_laws.proofs.BuiltFiles.{built_apart}
 use Rattle.stage_laws.proofs.ScriptRuns.{script_run}
-use Rattle.rss_cli.specs.Ordered.{HasRegularPlaces, FollowsScripts, EndsWhereWithheld}
-use Rattle.rss_cli.specs.Played.{are_built}
+use Rattle.rss_cli.specs.Played.{IsRun, are_built}
 use Rattle.rss_cli.specs.Served.{is_served, is_within, has_places, has_numbers}
 use Rattle.world_laws.specs.Exchanges.{is_replica}
 use Rattle.built_laws.proofs.BuiltRuns.{ready_run}
@@ -65,12 +74,12 @@ pub read_in_order : (file : List ℕ) (c : Config) → config_of file ≡ Ok c �
 read_in_order file c e = files_are_in_order file c e
 
 -- and where it runs, the places of each of its runs are regular
-pub run_is_ordered : (c : Config) (steps : List Step) (s : State) → IsInOrder c → is_served c ≡ true → run c steps ≡ Some s → HasRegularPlaces s
+run_is_ordered : (c : Config) (steps : List Step) (s : State) → IsInOrder c → is_served c ≡ true → run c steps ≡ Some s → HasRegularPlaces s
 run_is_ordered c steps s n served e =
     regular_places c n (built_keeps c (built_is c (and_parts _ _ served).0)) steps s e
 
 -- and each stage follows its script
-pub run_follows_scripts : (c : Config) (steps : List Step) (s : State) → is_served c ≡ true → are_numbered steps ≡ true → run c steps ≡ Some s → FollowsScripts c s
+run_follows_scripts : (c : Config) (steps : List Step) (s : State) → is_served c ≡ true → are_numbered steps ≡ true → run c steps ≡ Some s → (stage : ℕ) → ScriptRun c s.history stage
 run_follows_scripts c steps s served numbered e = λ stage.
     script_run c steps s stage (built_apart c (and_parts _ _ served).0) numbered e
 
@@ -127,6 +136,26 @@ no_shards c steps s built kinds e = λ m shard z l t.
     absurd (false≢true (sym (ap is_replica t) ∙ here))
 
 -- and who is cut off from a target was withheld it
-pub run_ends_where_withheld : (c : Config) (steps : List Step) (s : State) → is_served c ≡ true → are_built steps ≡ true → run c steps ≡ Some s → EndsWhereWithheld c steps s
+run_ends_where_withheld : (c : Config) (steps : List Step) (s : State) → is_served c ≡ true → are_built steps ≡ true → run c steps ≡ Some s → (owner : ℕ) (target : Target) → (owner_at s owner).fate ≡ CutOff target → IsWithheld c steps owner target
 run_ends_where_withheld c steps s served kinds e = λ owner target cut.
     withheld c steps s owner target e (gives_places c served) (no_shards c steps s (and_parts _ _ served).0 kinds e) cut
+
+-- THE PROMISE
+
+-- what holds of the state's history and places holds of the run's
+order_of_run : (h : Option State) (s : State) → h ≡ Some s → HasRegularPlaces s → Regular (history_in h) (order_in h)
+order_of_run h s e o = subst (λ (h : Option State). Regular (history_in h) (order_in h)) (sym e) o
+
+scripts_of_run : (c : Config) (h : Option State) (s : State) → h ≡ Some s → ((stage : ℕ) → ScriptRun c s.history stage) → (stage : ℕ) → ScriptRun c (history_in h) stage
+scripts_of_run c h s e o = subst (λ (h : Option State). (stage : ℕ) → ScriptRun c (history_in h) stage) (sym e) o
+
+-- what every reported run owes, of a file that is read and that runs
+pub keeps_promise : (c : Config) (steps : List Step) (s : State) → IsInOrder c → is_served c ≡ true → IsRun c steps s → are_numbered steps ≡ true → are_built steps ≡ true → KeepsPromise c steps
+keeps_promise c steps s n served r numbered kinds = record {
+  state = s;
+  runs = r.runs;
+  readings = r.consistent;
+  order = order_of_run (run c steps) s r.runs (run_is_ordered c steps s n served r.runs);
+  scripts = scripts_of_run c (run c steps) s r.runs (run_follows_scripts c steps s served numbered r.runs);
+  withheld = run_ends_where_withheld c steps s served kinds r.runs;
+}
