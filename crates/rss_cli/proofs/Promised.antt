@@ -16,6 +16,7 @@ use Rattle.pipeline_lang.specs.declared.script.Statement.{Statement}
 use Rattle.pipeline_lang.specs.declared.script.Statement.TheVariants as statement
 use Rattle.pipeline_file.specs.Document.{config_of}
 use Rattle.rss_model.specs.declared.history.Entry.{Entry}
+use Rattle.rss_model.specs.declared.history.How.TheVariants.{Unavailable}
 use Rattle.rss_model.specs.Regular.{Regular}
 use Rattle.rss_model.specs.ScriptRun.{ScriptRun}
 use Rattle.truetime.specs.Reading.{AreConsistent}
@@ -24,7 +25,8 @@ use Rattle.rss_machine.specs.Headline.{KeepsPromise}
 use Rattle.rss_machine.specs.Places.{order_in}
 use Rattle.rss_machine.specs.Run.{run, history_in}
 use Rattle.rss_machine.specs.State.{State, stage_at, owner_at}
-use Rattle.rss_machine.specs.Withheld.{IsWithheld}
+use Rattle.rss_machine.specs.Withheld.{IsWithheld, HurtBy}
+use Rattle.rss_machine.specs.declared.state.Life.TheVariants.{Over}
 use Rattle.rss_machine.specs.declared.state.OwnerFate.TheVariants.{CutOff}
 use Rattle.rss_machine.specs.declared.step.Step.{Step}
 use Rattle.reg_laws.specs.Files.{IsInOrder}
@@ -41,7 +43,7 @@ use Rattle.rss_cli.specs.Served.{is_served, is_within, has_places, has_numbers}
 use Rattle.world_laws.specs.Exchanges.{is_replica}
 use Rattle.built_laws.proofs.BuiltRuns.{ready_run}
 use Rattle.world_laws.specs.Targets.{GivesPlaces, ShardsHavePlaces}
-use Rattle.loss_laws.proofs.Files.{withheld}
+use Rattle.loss_laws.proofs.Files.{withheld, stages}
 use Rattle.event_world.proofs.Built.{built_file}
 
 -- a statement that runs keeps to the service of its script
@@ -140,6 +142,11 @@ run_ends_where_withheld : (c : Config) (steps : List Step) (s : State) → is_se
 run_ends_where_withheld c steps s served kinds e = λ owner target cut.
     withheld c steps s owner target e (gives_places c served) (no_shards c steps s (and_parts _ _ served).0 kinds e) cut
 
+-- and a stage is over as unavailable only where something was withheld from a statement of it
+run_hurts_where_withheld : (c : Config) (steps : List Step) (s : State) → is_served c ≡ true → are_built steps ≡ true → run c steps ≡ Some s → (stage : ℕ) → (stage_at s stage).life ≡ Over Unavailable → HurtBy c steps s stage
+run_hurts_where_withheld c steps s served kinds e =
+    (stages c steps s e (gives_places c served) (no_shards c steps s (and_parts _ _ served).0 kinds e)).unavailable
+
 -- THE PROMISE
 
 -- what holds of the state's history and places holds of the run's
@@ -158,4 +165,5 @@ keeps_promise c steps s n served r numbered kinds = record {
   order = order_of_run (run c steps) s r.runs (run_is_ordered c steps s n served r.runs);
   scripts = scripts_of_run c (run c steps) s r.runs (run_follows_scripts c steps s served numbered r.runs);
   withheld = run_ends_where_withheld c steps s served kinds r.runs;
+  hurt = run_hurts_where_withheld c steps s served kinds r.runs;
 }
