@@ -1,4 +1,4 @@
-//! The script language, and the configuration that a pipeline file says.
+//! Table: the script language, and the configuration that a pipeline file says.
 //!
 //! Which text spells which script: `Spells` in `specs/Grammar.antt`, over the tokens of
 //! `specs/Tokens.antt`. Which scripts some text spells: `IsScript` in `specs/Spelled.antt`. Where a

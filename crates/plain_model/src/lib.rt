@@ -1,4 +1,4 @@
-//! Table: slow and plain functions that compute what the model defines of a history: whether an
+//! Code: slow and plain functions that compute what the model defines of a history: whether an
 //! order of its calls is legal, what is potentially causal, and whether an order is regular.
 #![tactic(auto)]
 

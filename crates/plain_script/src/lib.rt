@@ -1,4 +1,4 @@
-//! Table: a slow and plain function that computes what the model defines of a stage's script: whether
+//! Code: a slow and plain function that computes what the model defines of a stage's script: whether
 //! the entries of a stage are a prefix of what its script gives.
 #![tactic(auto)]
 

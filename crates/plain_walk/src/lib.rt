@@ -1,4 +1,4 @@
-//! Table: a slow and plain walk of a stage's script along a history, step by step: where it begins,
+//! Code: a slow and plain walk of a stage's script along a history, step by step: where it begins,
 //! where it comes to without an entry, by an entry and by what it takes, what it tells of a pipe, and
 //! whether it may end there.
 #![tactic(auto)]
