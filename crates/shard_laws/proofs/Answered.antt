@@ -179,7 +179,7 @@ blocked sh x latest read_time least keys skip holders e = by_test (is_clear sh k
         }
 
 -- who writes a key writes one of the keys that it is among
-writes_among : (keys : List Key) (key : Key) → has_key keys key ≡ true → (writes : List (Key × ℕ)) → list_any (λ (w : Key × ℕ). has_key (key ∷ []) w.0) writes ≡ true → list_any (λ (w : Key × ℕ). has_key keys w.0) writes ≡ true
+pub writes_among : (keys : List Key) (key : Key) → has_key keys key ≡ true → (writes : List (Key × ℕ)) → list_any (λ (w : Key × ℕ). has_key (key ∷ []) w.0) writes ≡ true → list_any (λ (w : Key × ℕ). has_key keys w.0) writes ≡ true
 writes_among keys key h [] e = e
 writes_among keys key h (w ∷ ws) e = by_first (or_cases (has_key (key ∷ []) w.0) (list_any (λ (u : Key × ℕ). has_key (key ∷ []) u.0) ws) e) (writes_among keys key h ws)
   where
@@ -205,7 +205,7 @@ named_above time (s ∷ skipped) p h e = by_first (or_cases (same_attempt p.atte
     by_first (inr f) ih = ih f
 
 -- the version that shows is not older than the one found before
-last_not_older : (bound time : ℕ) (vs : List Version) (found : Version) → EachOf (IsAbove bound) vs → bound ≤ found.time → bound ≤ (last_upto found time vs).time
+pub last_not_older : (bound time : ℕ) (vs : List Version) (found : Version) → EachOf (IsAbove bound) vs → bound ≤ found.time → bound ≤ (last_upto found time vs).time
 last_not_older bound time [] found h l = l
 last_not_older bound time (v ∷ vs) found h l =
     let a : bound < v.time = h.0 in

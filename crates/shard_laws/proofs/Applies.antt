@@ -17,7 +17,7 @@ use Rattle.rss_tables.specs.ShardRow.{Shard, commits, tombstones, shard_after}
 use Rattle.shard_laws.specs.Entries.{entry_of, AreApart, prepared_by, holder_of}
 use Rattle.shard_laws.specs.Changes.{IsPreparedBy}
 use Rattle.shard_laws.specs.Closed.{EachOf, IsAtMost, writes_key, IsClosed}
-use Rattle.shard_laws.specs.Committed.{written_value, keeps_key, IsBelow, version_by}
+use Rattle.shard_laws.specs.Committed.{written_value, IsBelow, version_by}
 use Rattle.shard_laws.specs.Fitting.{locks_key}
 use Rattle.shard_laws.proofs.Entries.{kept, found_at, found_kept, same_is, same_itself}
 use Rattle.shard_laws.proofs.Lists.{prepared_is}
@@ -27,7 +27,7 @@ use Rattle.shard_laws.proofs.Rising.{each_more, last_same}
 use Rattle.shard_laws.proofs.Closes.{rising}
 use Rattle.shard_laws.proofs.Commits.{commit_writes, commit_leaves}
 use Rattle.shard_laws.proofs.Fits.{unwritten_by_others}
-use Rattle.shard_laws.proofs.Releases.{keys_later}
+use Rattle.shard_laws.proofs.Releases.{keys_later, keys_after}
 use Rattle.shard_laws.specs.Orderly.{IsOrderly, IsInOrder, HoldsShown}
 use Rattle.shard_laws.specs.Applied.{IsApplied}
 use Rattle.shard_laws.proofs.Newest.{upto_newest, newest_shows, last_shows, shown_is}
@@ -125,14 +125,10 @@ commit_applies sh latest time p reads writes shown o e s m = record {
         let above : time - 1 < time = omega (arith, b) in
         ap (last_upto opening_version (time - 1)) w.grown ∙ last_same opening_version (time - 1) (versions_of sh.store key) (version_by p time w.value ∷ []) (above, tt) ∙ now key (time - 1) (omega (arith, b))
 
--- a shard keeps its keys
-pub keys_stay : (sh : Shard) (latest : ℕ) (r : Request) (key : Key) → keeps_key (shard_after sh latest r).store key ≡ keeps_key sh.store key
-keys_stay sh latest r key = keys_later sh ((latest, r) ∷ []) key
-
 -- and so it stays
 pub applied_stay : (sh : Shard) (latest : ℕ) (r : Request) → IsOrderly sh → IsInOrder sh r → (call time : ℕ) (reads : List Key) (shown : List (Key × Version)) (writes : List (Key × ℕ)) → IsApplied sh call time reads shown writes → IsApplied (shard_after sh latest r) call time reads shown writes
 applied_stay sh latest r o f call time reads shown writes h = record {
   below = λ key v k g. let b = h.below key v k g in (closes_stay sh latest r o f key (time - 1) v b.0, b.1);
   unwritten = λ key v k g n. closes_stay sh latest r o f key time v (h.unwritten key v k g n);
-  written = λ key value w k. closes_stay sh latest r o f key time (record { value = value; time = time; writer = call }) (h.written key value w (sym (keys_stay sh latest r key) ∙ k));
+  written = λ key value w k. closes_stay sh latest r o f key time (record { value = value; time = time; writer = call }) (h.written key value w (sym (keys_after sh latest r key) ∙ k));
 }

@@ -44,7 +44,7 @@ written_now : (vs : List Version) (v : Version) → written_since (vs ++ v ∷ [
 written_now vs v = list_any-append (λ (u : Version). nat_le v.time u.time) vs (v ∷ []) ∙ or_right (written_since vs v.time) (nat_le v.time v.time || false) (or_left (nat_le v.time v.time) false (le-leb v.time v.time (omega arith)))
 
 -- a key that is written since is not written again
-written_stays : (store : List KeyVersions) (call time : ℕ) (key : Key) (writes : List (Key × ℕ)) → written_since (versions_of store key) time ≡ true → versions_of (applied store call time writes) key ≡ versions_of store key
+pub written_stays : (store : List KeyVersions) (call time : ℕ) (key : Key) (writes : List (Key × ℕ)) → written_since (versions_of store key) time ≡ true → versions_of (applied store call time writes) key ≡ versions_of store key
 written_stays store call time key writes h = applied_keeps (λ (s : List KeyVersions). versions_of s key ≡ versions_of store key) call time (λ (w : Key × ℕ). ⊤) step writes (each_any writes) store refl
   where
     step : (s : List KeyVersions) (w : Key × ℕ) → ⊤ → written_since (versions_of s w.0) time ≡ false → versions_of s key ≡ versions_of store key → versions_of (with_version s w.0 record { value = w.1; time = time; writer = call }) key ≡ versions_of store key
@@ -89,7 +89,7 @@ applied_first call time key value (w ∷ writes) e store k b = by_test (same_key
         first ((same_key-Decides w.0 key).0 f) cc
     by_test false f g ih = other f (ih g)
 
-commit_store : (sh : Shard) (latest time : ℕ) (p : PreparedWriter) → prepared_of sh.prepared p.attempt ≡ Some p → (shard_after sh latest (Commit p.attempt time)).store ≡ applied sh.store p.attempt.call time p.writes
+pub commit_store : (sh : Shard) (latest time : ℕ) (p : PreparedWriter) → prepared_of sh.prepared p.attempt ≡ Some p → (shard_after sh latest (Commit p.attempt time)).store ≡ applied sh.store p.attempt.call time p.writes
 unfolding shard_after
 commit_store sh latest time p e = ap (λ (o : Option PreparedWriter). (tombstones (commits sh p.attempt time o) p.attempt).store) e
 

@@ -1,11 +1,8 @@
 -- What an answered snapshot passes by, shows and closes.
 use Rattle.std.proofs.Common.{◌≡◌, ◌⊎◌, inl, inr, ℕ, ◌<◌, ◌≤◌, Bool, true, false, List, [], ◌∷◌, Some, refl, sym, ap, ◌∙◌, subst, arith}
 use Rattle.std.specs.Prelude.{IsTrue}
-use Rattle.std.specs.List.{list_any}
-use Rattle.std.proofs.lemmas.Bool.{true≢false, or_left, or_right, or_cases}
+use Rattle.std.proofs.lemmas.Bool.{true≢false}
 use Rattle.rss_names.specs.declared.service.Key.{Key}
-use Rattle.rss_names.specs.Services.{same_key}
-use Rattle.rss_names.proofs.Services.{same_key-Decides}
 use Rattle.rss_wire.specs.declared.messages.Skipped.{Skipped}
 use Rattle.rss_wire.specs.declared.messages.Request.TheVariants.{Snapshot}
 use Rattle.rss_wire.specs.declared.messages.Reply.TheVariants as reply
@@ -20,23 +17,10 @@ use Rattle.shard_laws.specs.Closed.{EachOf, writes_key}
 use Rattle.shard_laws.specs.Snapshots.{IsAskedAbout, IsRightlySkipped, IsBefore, ClosesAt}
 use Rattle.shard_laws.proofs.Rising.{each_more}
 use Rattle.shard_laws.proofs.Closes.{rising}
-use Rattle.shard_laws.proofs.Answered.{answered, closes}
+use Rattle.shard_laws.proofs.Answered.{answered, closes, writes_among}
 use Rattle.shard_laws.specs.Named.{IsNamed}
 use Rattle.shard_laws.specs.Orderly.{IsOrderly}
 use Rattle.shard_laws.proofs.Newest.{shows_earlier, shown_is}
-
--- who writes a key writes one of the keys that it is among
-writes_among : (keys : List Key) (key : Key) → has_key keys key ≡ true → (writes : List (Key × ℕ)) → list_any (λ (w : Key × ℕ). has_key (key ∷ []) w.0) writes ≡ true → list_any (λ (w : Key × ℕ). has_key keys w.0) writes ≡ true
-writes_among keys key h [] e = e
-writes_among keys key h (w ∷ ws) e = by_first (or_cases (has_key (key ∷ []) w.0) (list_any (λ (u : Key × ℕ). has_key (key ∷ []) u.0) ws) e) (writes_among keys key h ws)
-  where
-    by_key : (same_key w.0 key ≡ true) ⊎ (false ≡ true) → has_key keys w.0 ≡ true
-    by_key (inl s) = ap (has_key keys) ((same_key-Decides w.0 key).0 s) ∙ h
-    by_key (inr s) = absurd (true≢false (sym s))
-
-    by_first : (has_key (key ∷ []) w.0 ≡ true) ⊎ (list_any (λ (u : Key × ℕ). has_key (key ∷ []) u.0) ws ≡ true) → (list_any (λ (u : Key × ℕ). has_key (key ∷ []) u.0) ws ≡ true → list_any (λ (u : Key × ℕ). has_key keys u.0) ws ≡ true) → list_any (λ (u : Key × ℕ). has_key keys u.0) (w ∷ ws) ≡ true
-    by_first (inl f) ih = or_left (has_key keys w.0) (list_any (λ (u : Key × ℕ). has_key keys u.0) ws) (by_key (or_cases (same_key w.0 key) false f))
-    by_first (inr f) ih = or_right (has_key keys w.0) (list_any (λ (u : Key × ℕ). has_key keys u.0) ws) (ih f)
 
 -- a writer of an asked key that may stand at the read time cannot end before it
 pub answer_skips : (sh : Shard) (latest read_time least : ℕ) (keys : List Key) (versions : List (Key × Version)) (skipped : List Skipped) → IsReached sh → shard_reply sh latest (Snapshot read_time least keys true) ≡ reply.Values versions skipped → (key : Key) → IsTrue (has_key keys key) → (p : PreparedWriter) → prepared_of sh.prepared p.attempt ≡ Some p → IsTrue (writes_key p key) → p.prepare_time ≤ read_time → read_time < p.earliest_end

@@ -1,7 +1,7 @@
 -- The newest of versions that rise, and what lists of keys with their versions show.
 use Rattle.std.proofs.Common.{◌≡◌, ◌⊎◌, inl, inr, ℕ, ◌<◌, ◌≤◌, Bool, true, false, List, [], ◌∷◌, ◌++◌, map, Option, Some, None, refl, sym, ap, ◌∙◌, subst, arith}
 use Rattle.std.specs.Prelude.{nat_le, if◌then◌else◌}
-use Rattle.std.proofs.lemmas.Bool.{cond_both, or_left, or_right, le-leb, leb-true, leb-false}
+use Rattle.std.proofs.lemmas.Bool.{or_left, or_right, le-leb, leb-true, leb-false}
 use Rattle.rss_names.specs.declared.service.Key.{Key}
 use Rattle.rss_names.specs.Services.{same_key}
 use Rattle.rss_names.proofs.Services.{same_key-Decides}
@@ -10,6 +10,7 @@ use Rattle.rss_tables.specs.Lines.{version_in}
 use Rattle.rss_tables.specs.Locks.{has_key}
 use Rattle.rss_tables.specs.Versions.{KeyVersions, versions_of, last_upto, last_version, newest_version, newest_of, opening_version}
 use Rattle.shard_laws.specs.Closed.{EachOf, IsAtMost, IsAbove, AreRising}
+use Rattle.shard_laws.proofs.Answered.{last_not_older}
 
 -- the newest of versions that are at most a time is at most it
 pub newest_upto : (time : ℕ) (vs : List Version) (found : Version) → EachOf (IsAtMost time) vs → found.time ≤ time → (last_version found vs).time ≤ time
@@ -41,14 +42,6 @@ pub last_shows : (time : ℕ) (v : Version) → v.time ≤ time → (vs : List V
 last_shows time v l [] found = rw (le-leb v.time time l) refl
 last_shows time v l (u ∷ vs) found = last_shows time v l vs (if nat_le u.time time then u else found)
 
--- what shows is not before what was found, where versions above it rise
-shows_from : (bound time : ℕ) (vs : List Version) (found : Version) → EachOf (IsAbove bound) vs → bound ≤ found.time → bound ≤ (last_upto found time vs).time
-shows_from bound time [] found h l = l
-shows_from bound time (v ∷ vs) found h l =
-    let a : bound < v.time = h.0 in
-    cond_both (nat_le v.time time) v found (λ (f : Version). bound ≤ (last_upto f time vs).time)
-    (λ e. shows_from bound time vs v h.1 (omega (arith, a))) (λ e. shows_from bound time vs found h.1 l)
-
 -- what shows at a time is above an earlier time, or shows there already
 pub shows_earlier : (t time : ℕ) → t ≤ time → (vs : List Version) (found : Version) → AreRising vs → (t < (last_upto found time vs).time) ⊎ (last_upto found t vs ≡ last_upto found time vs)
 shows_earlier t time l [] found r = inr refl
@@ -59,7 +52,7 @@ shows_earlier t time l (v ∷ vs) found r = by_tests (nat_le v.time t) refl (nat
     by_tests true e false f ih jh = absurd (let a = leb-true v.time t e in let b = leb-false v.time time f in omega (arith, a, b, l))
     by_tests false e true f ih jh =
         let a = leb-false v.time t e in
-        let c = shows_from v.time time vs v r.0 (omega arith) in
+        let c = last_not_older v.time time vs v r.0 (omega arith) in
         inl (omega (arith, a, c))
     by_tests false e false f ih jh = jh
 

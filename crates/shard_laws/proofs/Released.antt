@@ -22,7 +22,7 @@ use Rattle.shard_laws.proofs.Gone.{Done, done_gone, gone_after}
 use Rattle.shard_laws.proofs.Fates.{left_done}
 
 -- one who is in a list that another joined is that one, or was there
-joined_cases : (ts : List Attempt) (b a : Attempt) → has_attempt (with_attempt ts b) a ≡ true → (has_attempt ts a ≡ true) ⊎ (a ≡ b)
+pub joined_cases : (ts : List Attempt) (b a : Attempt) → has_attempt (with_attempt ts b) a ≡ true → (has_attempt ts a ≡ true) ⊎ (a ≡ b)
 joined_cases ts b a = cond_both (has_attempt ts b) ts (ts ++ b ∷ []) (λ (l : List Attempt). has_attempt l a ≡ true → (has_attempt ts a ≡ true) ⊎ (a ≡ b)) (λ e h. inl h)
     (λ e h. by_part (or_cases (has_attempt ts a) (same_attempt a b || false) (sym (list_any-append (same_attempt a) ts (b ∷ [])) ∙ h)))
   where

@@ -33,7 +33,7 @@ pub locked_opening : (keys : List Key) → WritesAreLocked (opening_shard keys)
 locked_opening keys = record { each = λ p h e f key w. absurd (let x : ◌≡◌ {A = Option PreparedWriter} None (Some p) = e in cc) }
 
 -- a shard keeps its keys
-keys_after : (sh : Shard) (latest : ℕ) (r : Request) (key : Key) → keeps_key (shard_after sh latest r).store key ≡ keeps_key sh.store key
+pub keys_after : (sh : Shard) (latest : ℕ) (r : Request) (key : Key) → keeps_key (shard_after sh latest r).store key ≡ keeps_key sh.store key
 keys_after sh latest r key = cases sh latest r (λ (w : Shard). keeps_key w.store key ≡ keeps_key sh.store key) record {
   rest = refl;
   locks = λ new i t n. refl;

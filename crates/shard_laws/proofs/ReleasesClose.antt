@@ -1,8 +1,7 @@
 -- What a release closes, and who is in the list of those that released.
-use Rattle.std.proofs.Common.{◌≡◌, ◌⊎◌, inl, inr, ℕ, ◌≤◌, Bool, true, false, ◌||◌, List, [], ◌∷◌, ◌++◌, Some, is_some, refl, sym, ap, ◌∙◌, subst}
+use Rattle.std.proofs.Common.{◌≡◌, ◌⊎◌, inl, inr, ℕ, ◌≤◌, Bool, true, false, List, [], ◌∷◌, ◌++◌, Some, is_some, refl, sym, ap, ◌∙◌, subst}
 use Rattle.std.specs.Prelude.{IsTrue, if◌then◌else◌}
-use Rattle.std.proofs.lemmas.Bool.{cond_both, true≢false, or_cases}
-use Rattle.std.proofs.lemmas.List.Folds.{list_any-append}
+use Rattle.std.proofs.lemmas.Bool.{cond_both}
 use Rattle.rss_names.specs.declared.attempt.Attempt.{Attempt}
 use Rattle.rss_names.specs.declared.service.Key.{Key}
 use Rattle.rss_wire.specs.declared.messages.Outcome.{Outcome}
@@ -12,7 +11,7 @@ use Rattle.rss_wire.specs.declared.messages.Request.TheVariants.{Release}
 use Rattle.rss_wire.specs.declared.messages.Reply.{Reply}
 use Rattle.rss_wire.specs.declared.messages.Reply.TheVariants as reply
 use Rattle.rss_wire.specs.declared.messages.Version.{Version}
-use Rattle.rss_tables.specs.Attempts.{same_attempt, has_attempt, with_attempt}
+use Rattle.rss_tables.specs.Attempts.{has_attempt}
 use Rattle.rss_tables.specs.Lines.{version_in}
 use Rattle.rss_tables.specs.Locks.{has_key}
 use Rattle.rss_tables.specs.Versions.{KeyVersions, versions_of, version_at, newest_version, opening_version}
@@ -20,13 +19,13 @@ use Rattle.rss_tables.specs.ShardRow.{Shard, decision_in, keeps_decision, can_re
 use Rattle.shard_laws.specs.Closed.{IsClosed}
 use Rattle.shard_laws.specs.Snapshots.{ClosesAt}
 use Rattle.shard_laws.proofs.Cases.{cases}
-use Rattle.shard_laws.proofs.Entries.{same_is}
 use Rattle.shard_laws.proofs.Lists.{stays_joined}
 use Rattle.shard_laws.proofs.Closes.{rising, decides_beside}
 use Rattle.shard_laws.proofs.Releases.{release_closes as release_closes_keys}
 use Rattle.shard_laws.specs.Orderly.{IsOrderly, HoldsShown}
 use Rattle.shard_laws.proofs.Newest.{newest_shows, shown_is}
 use Rattle.shard_laws.proofs.Found.{found_attempt, found_itself, read_locked}
+use Rattle.shard_laws.proofs.Released.{joined_cases}
 
 -- a release leaves the versions
 release_store : (sh : Shard) (latest time : ℕ) (last : Bool) (a : Attempt) → (shard_after sh latest (Release a time last)).store ≡ sh.store
@@ -52,19 +51,6 @@ release_closes sh latest time last a reads writes shown o s c key v k g l = reco
 
     newest : v ≡ newest_version sh.store key
     newest = shown_is (newest_version sh.store) reads key v (ap (λ (list : List (Key × Version)). version_in list key) s.newest ∙ g)
-
--- who is in a list that another joined is that one, or was there
-joined_cases : (ts : List Attempt) (b a : Attempt) → has_attempt (with_attempt ts b) a ≡ true → (has_attempt ts a ≡ true) ⊎ (a ≡ b)
-joined_cases ts b a = cond_both (has_attempt ts b) ts (ts ++ b ∷ []) (λ (l : List Attempt). has_attempt l a ≡ true → (has_attempt ts a ≡ true) ⊎ (a ≡ b)) (λ e h. inl h)
-    (λ e h. by_part (or_cases (has_attempt ts a) (same_attempt a b || false) (sym (list_any-append (same_attempt a) ts (b ∷ [])) ∙ h)))
-  where
-    by_last : (same_attempt a b ≡ true) ⊎ (false ≡ true) → (has_attempt ts a ≡ true) ⊎ (a ≡ b)
-    by_last (inl f) = inr (same_is a b f)
-    by_last (inr f) = absurd (true≢false (sym f))
-
-    by_part : (has_attempt ts a ≡ true) ⊎ ((same_attempt a b || false) ≡ true) → (has_attempt ts a ≡ true) ⊎ (a ≡ b)
-    by_part (inl f) = inl f
-    by_part (inr f) = by_last (or_cases (same_attempt a b) false f)
 
 -- decisions leave who has released
 decides_released : (P : List Attempt → Type 0) (sh : Shard) (attempt : Attempt) (outcome : Outcome) → P sh.released → P (keeps_decision sh attempt outcome).released

@@ -1,7 +1,7 @@
 -- What the commit of a prepared attempt adds to the versions of a key, and where versions come from.
 use Rattle.std.proofs.Common.{◌≡◌, ◌⊎◌, inl, inr, ℕ, Bool, true, false, List, [], ◌∷◌, ◌++◌, Option, Some, None, refl, sym, ap, ◌∙◌, subst}
-use Rattle.std.specs.Prelude.{if◌then◌else◌, ⊤}
-use Rattle.std.proofs.lemmas.Bool.{true≢false, or_parts, or_from, or_left, or_right}
+use Rattle.std.specs.Prelude.{if◌then◌else◌}
+use Rattle.std.proofs.lemmas.Bool.{or_parts, or_from, or_left, or_right}
 use Rattle.rss_names.specs.declared.attempt.Attempt.{Attempt}
 use Rattle.rss_names.specs.declared.service.Key.{Key}
 use Rattle.rss_names.specs.Services.{same_key}
@@ -11,15 +11,15 @@ use Rattle.rss_wire.specs.declared.messages.Request.TheVariants.{Commit}
 use Rattle.rss_wire.specs.declared.messages.Version.{Version}
 use Rattle.rss_tables.specs.Locks.{has_key}
 use Rattle.rss_tables.specs.Prepared.{PreparedWriter, prepared_of}
-use Rattle.rss_tables.specs.Versions.{KeyVersions, versions_of, with_version}
-use Rattle.rss_tables.specs.ShardRow.{Shard, written_since, applied, commits, tombstones, releases, releases_last, shard_after}
+use Rattle.rss_tables.specs.Versions.{KeyVersions, versions_of}
+use Rattle.rss_tables.specs.ShardRow.{Shard, written_since, applied, commits, releases, releases_last, shard_after}
 use Rattle.shard_laws.specs.Closed.{EachOf}
 use Rattle.shard_laws.specs.Committed.{written_value, keeps_key, version_by}
 use Rattle.shard_laws.specs.Fitting.{is_written}
 use Rattle.shard_laws.proofs.Cases.{cases}
-use Rattle.shard_laws.proofs.Rising.{each_append, all_before, version_put, applied_keeps, each_any}
+use Rattle.shard_laws.proofs.Rising.{each_append, all_before}
 use Rattle.shard_laws.proofs.Closes.{decides_beside}
-use Rattle.shard_laws.proofs.Commits.{commit_writes, commit_leaves}
+use Rattle.shard_laws.proofs.Commits.{commit_writes, commit_leaves, written_stays, commit_store}
 use Rattle.shard_laws.proofs.Releases.{keys_later}
 use Rattle.shard_laws.specs.Orderly.{IsOrderly}
 use Rattle.shard_laws.proofs.Found.{prepared_attempt, prepared_itself}
@@ -48,22 +48,6 @@ some_value (w ∷ writes) key value e = by_test (same_key w.0 key) refl e (some_
     by_test : (b : Bool) → same_key w.0 key ≡ b → (if b then Some w.1 else written_value writes key) ≡ Some value → (written_value writes key ≡ Some value → is_written writes key ≡ true) → is_written (w ∷ writes) key ≡ true
     by_test true s g ih = or_left (has_key (key ∷ []) w.0) (is_written writes key) (or_left (same_key w.0 key) false s)
     by_test false s g ih = or_right (has_key (key ∷ []) w.0) (is_written writes key) (ih g)
-
--- a key that is written since a time is not written at it
-written_stays : (store : List KeyVersions) (call time : ℕ) (key : Key) (writes : List (Key × ℕ)) → written_since (versions_of store key) time ≡ true → versions_of (applied store call time writes) key ≡ versions_of store key
-written_stays store call time key writes h = applied_keeps (λ (s : List KeyVersions). versions_of s key ≡ versions_of store key) call time (λ (w : Key × ℕ). ⊤) step writes (each_any writes) store refl
-  where
-    step : (s : List KeyVersions) (w : Key × ℕ) → ⊤ → written_since (versions_of s w.0) time ≡ false → versions_of s key ≡ versions_of store key → versions_of (with_version s w.0 record { value = w.1; time = time; writer = call }) key ≡ versions_of store key
-    step s w q n e = by_key (version_put s w.0 record { value = w.1; time = time; writer = call } key)
-      where
-        by_key : ((versions_of (with_version s w.0 record { value = w.1; time = time; writer = call }) key ≡ versions_of s key ++ record { value = w.1; time = time; writer = call } ∷ []) × (w.0 ≡ key)) ⊎ (versions_of (with_version s w.0 record { value = w.1; time = time; writer = call }) key ≡ versions_of s key) → versions_of (with_version s w.0 record { value = w.1; time = time; writer = call }) key ≡ versions_of store key
-        by_key (inl i) = absurd (true≢false (sym h ∙ ap (λ (vs : List Version). written_since vs time) (sym e) ∙ ap (λ (k : Key). written_since (versions_of s k) time) (sym i.1) ∙ n))
-        by_key (inr i) = i ∙ e
-
--- the store after a commit
-commit_store : (sh : Shard) (latest time : ℕ) (p : PreparedWriter) → prepared_of sh.prepared p.attempt ≡ Some p → (shard_after sh latest (Commit p.attempt time)).store ≡ applied sh.store p.attempt.call time p.writes
-unfolding shard_after
-commit_store sh latest time p e = ap (λ (o : Option PreparedWriter). (tombstones (commits sh p.attempt time o) p.attempt).store) e
 
 -- a commit makes the first value of an attempt for a key one more version of it
 pub record Wrote (sh : Shard) (latest time : ℕ) (p : PreparedWriter) (key : Key) : Type 0 where

@@ -1,44 +1,18 @@
 -- Times fit true moments before the first step, and where a step is counted.
-use Rattle.std.proofs.Common.{◌≡◌, ℕ, zero, suc, ◌+◌, ◌-◌, ◌<◌, ◌≤◌, List, [], ◌∷◌, ◌++◌, length, get_or, Option, Some, None, refl, sym, ap, ◌∙◌, arith}
+use Rattle.std.proofs.Common.{◌≡◌, ℕ, zero, suc, ◌+◌, ◌-◌, ◌≤◌, List, [], ◌∷◌, ◌++◌, length, get_or, refl, sym, ap, ◌∙◌, arith}
 use Rattle.truetime.specs.Reading.{Reading}
 use Rattle.truetime.specs.TrueMoment.{moment_after}
-use Rattle.rss_names.specs.declared.attempt.Attempt.{Attempt}
-use Rattle.rss_names.specs.declared.service.Key.{Key}
-use Rattle.rss_names.specs.declared.service.ServiceId.{ServiceId}
-use Rattle.rss_names.specs.declared.service.Target.{Target}
 use Rattle.pipeline_lang.specs.declared.config.Config.{Config}
-use Rattle.rss_wire.specs.declared.messages.Reply.{Reply}
-use Rattle.rss_wire.specs.declared.messages.Request.{Request}
-use Rattle.rss_tables.specs.Prepared.{PreparedWriter, prepared_of}
-use Rattle.rss_tables.specs.ShardRow.{Shard as ShardState, opening_shard}
 use Rattle.rss_tables.specs.SnapshotSession.{SnapSession}
 use Rattle.rss_tables.specs.TransactionSession.{TxnSession}
 use Rattle.rss_machine.specs.Moves.{ticks}
 use Rattle.rss_machine.specs.Session.{Session}
-use Rattle.rss_machine.specs.State.{State, start, no_owner, owner_at, shard_at, shards_from}
+use Rattle.rss_machine.specs.State.{State, start, no_owner, owner_at, shard_at}
 use Rattle.rss_machine.specs.declared.session.Session.TheVariants as session
 use Rattle.world_laws.proofs.Looks.{looks}
 use Rattle.shard_event_laws.specs.Known.{moment_at}
 use Rattle.txn_state_laws.specs.Dated.{AllDated, begun_moment, ended_moment}
-use Rattle.txn_state_laws.specs.Replied.{Replied}
-
--- a shard that has served nothing
-record IsOpening (sh : ShardState) : Type 0 where
-  keys : List Key
-  is : sh ≡ opening_shard keys
-
-opening_at : (c : Config) (n : ℕ) (services : List ServiceId) (i : ℕ) → IsOpening (get_or (shards_from c n services) i (opening_shard []))
-opening_at c n [] i = record { keys = []; is = refl }
-opening_at c n (service ∷ services) zero = record { keys = _; is = refl }
-opening_at c n (service ∷ services) (suc i) = opening_at c (n + 1) services i
-
--- nobody is prepared there
-nobody_prepared : (sh : ShardState) (a : Attempt) (p : PreparedWriter) → IsOpening sh → prepared_of sh.prepared a ≡ Some p → ⊥
-nobody_prepared sh a p x e = let y : ◌≡◌ {A = Option PreparedWriter} None (Some p) = ap (λ (z : ShardState). prepared_of z.prepared a) (sym x.is) ∙ e in cc
-
--- nothing was replied yet
-nothing_replied : (c : Config) (target : Target) (q : Request) (r : Reply) → Replied (start c) target q r → ⊥
-nothing_replied c target q r x = let a = x.is.numbered in let b : x.message < 1 = x.is.sent in omega (arith, a, b)
+use Rattle.txn_state_laws.proofs.Starts.{opens, nobody_prepared, nothing_replied, replied_ticks}
 
 -- nobody is there
 pub nobody : (c : Config) (o : ℕ) → owner_at (start c) o ≡ no_owner
@@ -61,7 +35,7 @@ no_snap c o x e = absurd (idle_snap x (ap (λ w. w.session) (sym (nobody c o)) �
 pub dated_start : (c : Config) → AllDated (start c)
 dated_start c = record {
   begun = λ o. let e = ap (λ w. w.dates.begun) (nobody c o) in omega (arith, e);
-  prepared = λ shard a p first e. absurd (nobody_prepared (shard_at (start c) shard) a p (opening_at c 1 c.shard_services (shard - 1)) e);
+  prepared = λ shard a p first e. absurd (nobody_prepared (shard_at (start c) shard) a p (opens c shard) e);
   voted = λ shard a least earliest_end writes time x. absurd (nothing_replied c _ _ _ x);
   freeing = λ o time x e f. no_txn c o x e;
   reading = λ o time x e f. no_snap c o x e;
@@ -79,19 +53,12 @@ old_moment ms x i l = grind (arith, looks, l)
 pub moment_stays : (s : State) (at : Reading) → length s.moments ≡ s.steps → (i : ℕ) → i ≤ s.steps → moment_at (ticks s at) i ≡ moment_at s i
 moment_stays s at n i l = old_moment s.moments (moment_after s.moment at) i (omega (arith, n, l))
 
--- replies are the same
-ticks_replied : (s : State) (at : Reading) (target : Target) (q : Request) (r : Reply) → Replied (ticks s at) target q r → Replied s target q r
-ticks_replied s at target q r x = record {
-  message = x.message;
-  is = record { numbered = x.is.numbered; sent = x.is.sent; says = x.is.says; asked = x.is.asked; from = x.is.from };
-}
-
 -- times fit where a step is counted
 pub dated_ticks : (s : State) (at : Reading) → length s.moments ≡ s.steps → AllDated s → AllDated (ticks s at)
 dated_ticks s at n h = record {
   begun = λ o. let b = h.begun o in omega (arith, b);
   prepared = λ shard a p first e. let q = h.prepared shard a p first e in let m = begins a.call in omega (arith, q, m);
-  voted = λ shard a least earliest_end writes time x. let q = h.voted shard a least earliest_end writes time (ticks_replied s at _ _ _ x) in let m = begins a.call in let f = q.0 in (omega (arith, f, m), q.1);
+  voted = λ shard a least earliest_end writes time x. let q = h.voted shard a least earliest_end writes time (replied_ticks s at _ _ _ x) in let m = begins a.call in let f = q.0 in (omega (arith, f, m), q.1);
   freeing = λ o time x e f. let q = h.freeing o time x e f in let m = begins o in omega (arith, q, m);
   reading = λ o time x e f. let q = h.reading o time x e f in let m = begins o in omega (arith, q, m);
   committed = λ o time x e f.

@@ -4,12 +4,9 @@ use Rattle.std.proofs.lemmas.Bool.{true≢false}
 use Rattle.truetime.specs.Reading.{Reading}
 use Rattle.rss_names.specs.declared.attempt.Attempt.{Attempt}
 use Rattle.rss_names.specs.declared.service.ServiceId.{ServiceId}
-use Rattle.rss_names.specs.declared.service.Target.{Target}
 use Rattle.pipeline_lang.specs.declared.config.Config.{Config}
 use Rattle.rss_wire.specs.Messages.{message_at}
 use Rattle.rss_wire.specs.declared.messages.Outcome.{Outcome}
-use Rattle.rss_wire.specs.declared.messages.Reply.{Reply}
-use Rattle.rss_wire.specs.declared.messages.Request.{Request}
 use Rattle.rss_tables.specs.ShardRow.{opening_shard, decision_in}
 use Rattle.rss_tables.specs.SnapshotSession.{SnapSession}
 use Rattle.rss_tables.specs.TransactionSession.{TxnSession}
@@ -21,7 +18,7 @@ use Rattle.session_laws.proofs.Keeps.{same_txn, same_snap}
 use Rattle.txn_state_laws.specs.Decided.{AllDecided, DecidedIs}
 use Rattle.txn_state_laws.specs.Justified.{AllJust}
 use Rattle.txn_state_laws.specs.Onward.{TxnOnward, SnapOnward}
-use Rattle.txn_state_laws.specs.Replied.{Replied}
+use Rattle.txn_state_laws.proofs.Starts.{nothing_replied, replied_ticks}
 use Rattle.txn_decision_laws.specs.Calm.{AllCalm}
 use Rattle.txn_decision_laws.proofs.Grows.{Grows}
 use Rattle.txn_decision_laws.proofs.JustStays.{just_stays}
@@ -51,9 +48,6 @@ no_decision_start : (c : Config) (shard : ℕ) (a : Attempt) (outcome : Outcome)
 no_decision_start c shard a outcome A e =
     absurd (none_is_not outcome (ap (λ (ds : List (Attempt × Outcome)). decision_in ds a) (sym (no_decisions c 1 c.shard_services (shard - 1))) ∙ e))
 
-no_reply_start : (c : Config) (target : Target) (q : Request) (r : Reply) (A : Type 0) → Replied (start c) target q r → A
-no_reply_start c target q r A h = no_message_start c h.message A h.is.numbered h.is.sent
-
 pub calm_start : (c : Config) → AllCalm (start c)
 calm_start c = record { each = λ o x e. no_txn_start c o x _ e }
 
@@ -65,8 +59,8 @@ decided_start c = record {
   at = λ shard a outcome l e. no_decision_start c shard a outcome _ e;
   before = λ o k x e l i. no_txn_start c o x _ e;
   known = λ o time x e g. no_txn_start c o x _ e;
-  decided = λ shard a commit time outcome h. no_reply_start c _ _ _ _ h;
-  inquired = λ shard a outcome h. no_reply_start c _ _ _ _ h;
+  decided = λ shard a commit time outcome h. absurd (nothing_replied c _ _ _ h);
+  inquired = λ shard a outcome h. absurd (nothing_replied c _ _ _ h);
 }
 
 -- WHERE A STEP IS COUNTED
@@ -94,12 +88,6 @@ ticks_grow s at = record {
   txn = λ o x e. record { txn = x; under_way = e; onward = txn_itself x };
   snap = λ o x e. record { snap = x; under_way = e; onward = snap_itself x };
   decisions = λ shard a outcome e. e;
-}
-
-replied_ticks : (s : State) (at : Reading) (target : Target) (q : Request) (r : Reply) → Replied (ticks s at) target q r → Replied s target q r
-replied_ticks s at target q r h = record {
-  message = h.message;
-  is = record { numbered = h.is.numbered; sent = h.is.sent; says = h.is.says; asked = h.is.asked; from = h.is.from };
 }
 
 pub calm_ticks : (s : State) (at : Reading) → AllCalm s → AllCalm (ticks s at)

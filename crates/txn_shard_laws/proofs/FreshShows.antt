@@ -28,6 +28,7 @@ use Rattle.shard_laws.specs.Fitting.{is_written, IsPreparedAt}
 use Rattle.shard_laws.specs.Snapshots.{ClosesAt}
 use Rattle.shard_laws.proofs.Found.{prepared_itself}
 use Rattle.shard_laws.proofs.Order.{closed_version}
+use Rattle.shard_laws.proofs.Wrote.{some_value}
 use Rattle.session_laws.specs.Frames.{nth_line}
 use Rattle.session_laws.proofs.Shown.{written_on, greatest_prepared_above}
 use Rattle.txn_state_laws.specs.Decided.{AllDecided, known_commit}
@@ -41,7 +42,7 @@ use Rattle.txn_state_laws.specs.Replied.{Replied}
 use Rattle.txn_state_laws.specs.Told.{AllTold, has_voted}
 use Rattle.txn_state_laws.specs.Voted.{AllVoted, VoteIs, prepared, aborted, applied}
 use Rattle.txn_state_laws.proofs.Grows.{coordinator_first, one_line, one_txn, txn_is}
-use Rattle.txn_shard_laws.proofs.FreshWrites.{WritesThere, value_among, value_written, written_is_key, written_there}
+use Rattle.txn_shard_laws.proofs.FreshWrites.{WritesThere, value_among, written_is_key, written_there}
 
 -- two outcomes that are the same
 aborted_not : (time : ℕ) → ◌≡◌ {A = Option Outcome} (Some Aborted) (Some (Committed time)) → ⊥
@@ -123,7 +124,7 @@ module _ (c : Config) (s : State) (framed : AllFramed c s) (told : AllTold s) (d
             (subst (λ (y : TxnSession). PreparesNow y is.line p.entry.earliest_end p.entry.writes) same (is.now (ap (λ (y : TxnSession). y.k) (sym same))))
 
         writes : IsTrue (writes_key p.entry key)
-        writes = ap (λ (ws : List (Key × ℕ)). is_written ws key) now.writes_are ∙ value_written (writes_on l (computed x)) key h.value value_on
+        writes = ap (λ (ws : List (Key × ℕ)). is_written ws key) now.writes_are ∙ some_value (writes_on l (computed x)) key h.value value_on
 
         by_pass : (read_time < p.entry.prepare_time) ⊎ (read_time < p.entry.earliest_end) → ⊥
         by_pass (inl b) =

@@ -16,7 +16,6 @@ use Rattle.rss_tables.specs.TransactionSession.{TxnSession, written_keys}
 use Rattle.rss_machine.specs.State.{State, owner_at}
 use Rattle.rss_machine.specs.declared.session.Session.TheVariants as session
 use Rattle.shard_laws.specs.Committed.{written_value}
-use Rattle.shard_laws.specs.Fitting.{is_written}
 use Rattle.session_laws.specs.Frames.{frames_of, nth_line, IsLine}
 use Rattle.session_laws.proofs.Frames.{frames_length, frames_shard, frames_reads, frames_writes, lines_of_reads, lines_of_writes}
 use Rattle.session_laws.proofs.Shown.{key_turned}
@@ -31,15 +30,6 @@ value_among f (w ∷ writes) key value e = by_test (same_key w.0 key) refl e (va
     by_test : (b : Bool) → same_key w.0 key ≡ b → (if b then Some (f w) else written_value (map (λ (u : Key × Expr ℕ). (u.0, f u)) writes) key) ≡ Some value → (written_value (map (λ (u : Key × Expr ℕ). (u.0, f u)) writes) key ≡ Some value → has_key (written_keys writes) key ≡ true) → has_key (written_keys (w ∷ writes)) key ≡ true
     by_test true s g ih = or_left (same_key key w.0) (has_key (written_keys writes) key) (key_turned w.0 key s)
     by_test false s g ih = or_right (same_key key w.0) (has_key (written_keys writes) key) (ih g)
-
--- and is written
-pub value_written : (writes : List (Key × ℕ)) (key : Key) (value : ℕ) → written_value writes key ≡ Some value → is_written writes key ≡ true
-value_written [] key value e = absurd (let x : ◌≡◌ {A = Option ℕ} None (Some value) = e in cc)
-value_written (w ∷ writes) key value e = by_test (same_key w.0 key) refl e (value_written writes key value)
-  where
-    by_test : (b : Bool) → same_key w.0 key ≡ b → (if b then Some w.1 else written_value writes key) ≡ Some value → (written_value writes key ≡ Some value → is_written writes key ≡ true) → is_written (w ∷ writes) key ≡ true
-    by_test true s g ih = or_left (has_key (key ∷ []) w.0) (is_written writes key) (or_left (same_key w.0 key) false s)
-    by_test false s g ih = or_right (has_key (key ∷ []) w.0) (is_written writes key) (ih g)
 
 -- what holds of each key holds of one that is among them
 pub among_each : (P : Key → Type 0) (keys : List Key) (key : Key) → All P keys → has_key keys key ≡ true → P key

@@ -23,7 +23,7 @@ use Rattle.shard_laws.specs.Entries.{holder_of}
 use Rattle.shard_laws.specs.Locked.{IsGone}
 use Rattle.session_laws.specs.Frames.{Frame}
 use Rattle.shard_laws.specs.Orderly.{IsOrderly, HoldsShown}
-use Rattle.shard_laws.proofs.Applies.{keys_stay}
+use Rattle.shard_laws.proofs.Releases.{keys_after}
 use Rattle.shard_laws.proofs.Found.{prepared_attempt, prepared_itself}
 use Rattle.shard_laws.proofs.Holders.{holder_from, granted_holds}
 use Rattle.shard_laws.proofs.Orderly.{orderly_kept}
@@ -153,7 +153,7 @@ module _ (c : Config) (at : Reading) (s t : State) (b : Between c at s t) (j : A
 
   keys_at : (n : ℕ) (key : Key) → ShardGoes s t at.latest n → IsTrue (keeps_key (shard_at s n).store key) → IsTrue (keeps_key (shard_at t n).store key)
   keys_at n key (stays e) k = subst (λ (sh : ShardState). IsTrue (keeps_key sh.store key)) (sym e) k
-  keys_at n key (serves v) k = subst (λ (sh : ShardState). IsTrue (keeps_key sh.store key)) (sym v.now) (keys_stay (shard_at s n) at.latest v.request key ∙ k)
+  keys_at n key (serves v) k = subst (λ (sh : ShardState). IsTrue (keeps_key sh.store key)) (sym v.now) (keys_after (shard_at s n) at.latest v.request key ∙ k)
 
   held_at : (n : ℕ) (a : Attempt) (h : LockHolder) → 1 ≤ n → ShardGoes s t at.latest n → holder_of (shard_at t n).locks.holders a ≡ Some h → HeldIs s n a h
   held_at n a h first (stays e) g = o.held n a h first (ap (λ (sh : ShardState). holder_of sh.locks.holders a) (sym e) ∙ g)

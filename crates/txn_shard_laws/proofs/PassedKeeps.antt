@@ -1,15 +1,12 @@
 -- What answered snapshots may have missed, as every event keeps it.
-use Rattle.std.proofs.Common.{◌≡◌, ◌⊎◌, inl, inr, ℕ, ◌≤◌, Bool, List, length, sym, ap, ◌∙◌, subst, arith, Some}
+use Rattle.std.proofs.Common.{◌≡◌, ◌⊎◌, inl, inr, ℕ, ◌≤◌, Bool, List, length, sym, ap, ◌∙◌, subst, Some}
 use Rattle.std.specs.Prelude.{IsTrue}
 use Rattle.truetime.specs.Reading.{Reading}
 use Rattle.rss_names.specs.declared.service.Key.{Key}
-use Rattle.rss_names.specs.declared.service.Target.{Target}
 use Rattle.rss_names.specs.declared.service.Target.TheVariants.{Shard}
 use Rattle.pipeline_lang.specs.declared.config.Config.{Config}
 use Rattle.rss_wire.specs.Messages.{message_at}
-use Rattle.rss_wire.specs.declared.messages.Reply.{Reply}
 use Rattle.rss_wire.specs.declared.messages.Reply.TheVariants as reply
-use Rattle.rss_wire.specs.declared.messages.Request.{Request}
 use Rattle.rss_wire.specs.declared.messages.Request.TheVariants.{Snapshot}
 use Rattle.rss_wire.specs.declared.messages.Skipped.{Skipped}
 use Rattle.rss_wire.specs.declared.messages.Version.{Version}
@@ -28,11 +25,11 @@ use Rattle.txn_state_laws.specs.Justified.{AllJust, SnapshotIs}
 use Rattle.txn_state_laws.specs.Onward.{Between}
 use Rattle.txn_state_laws.specs.Orderly.{AllOrderly, AllInOrder}
 use Rattle.txn_state_laws.specs.Passed.{AllPassed, EndsLater, IsPassedRightly, KeyPassed}
-use Rattle.txn_laws.specs.Given.{IsReplyOf}
 use Rattle.txn_state_laws.specs.Replied.{Replied}
 use Rattle.txn_state_laws.proofs.Grows.{DecisionsStay}
 use Rattle.txn_state_laws.proofs.Replies.{Quiet, Serves, event_does, quiet_reply, served_reply, reply_asked, ReplyComes, was, comes}
 use Rattle.txn_state_laws.proofs.Serves.{ShardGoes, stays, serves, goes, served_there, serves_at, decisions_stay}
+use Rattle.txn_state_laws.proofs.Starts.{nothing_replied, replied_ticks}
 use Rattle.txn_shard_laws.proofs.Shown.{answer_shown}
 use Rattle.txn_shard_laws.proofs.PassedServes.{key_serves, key_stays, passed_by_shard, seen_passed}
 
@@ -117,10 +114,7 @@ passed_keeps c at s t b just decided decided' orderly in_order passed = record {
 -- before the first step nothing was answered
 pub passed_start : (c : Config) → AllPassed (start c)
 passed_start c = record {
-  each = λ n read_time least keys skip versions skipped r.
-      let numbered = r.is.numbered in
-      let sent = r.is.sent in
-      absurd (omega (arith, numbered, sent));
+  each = λ n read_time least keys skip versions skipped r. absurd (nothing_replied c _ _ _ r);
 }
 
 -- where a step is counted, nothing else changes
@@ -138,12 +132,9 @@ key_ticks s at n read_time key v h = record {
   versions = each_more (IsPassedRightly s read_time v) (IsPassedRightly (ticks s at) read_time v) (rightly_ticks s at read_time v) (versions_of (shard_at s n).store key) h.versions;
 }
 
-reply_ticks : (s : State) (at : Reading) (m : ℕ) (target : Target) (q : Request) (r : Reply) → IsReplyOf (ticks s at) m target q r → IsReplyOf s m target q r
-reply_ticks s at m target q r i = record { numbered = i.numbered; sent = i.sent; says = i.says; asked = i.asked; from = i.from }
-
 pub passed_ticks : (s : State) (at : Reading) → AllPassed s → AllPassed (ticks s at)
 passed_ticks s at passed = record {
   each = λ n read_time least keys skip versions skipped r key v k g.
       key_ticks s at n read_time key v
-      (passed.each n read_time least keys skip versions skipped record { message = r.message; is = reply_ticks s at r.message (Shard n) (Snapshot read_time least keys skip) (reply.Values versions skipped) r.is } key v k g);
+      (passed.each n read_time least keys skip versions skipped (replied_ticks s at (Shard n) (Snapshot read_time least keys skip) (reply.Values versions skipped) r) key v k g);
 }

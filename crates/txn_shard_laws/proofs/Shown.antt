@@ -1,7 +1,7 @@
 -- One shard: what an answered snapshot leaves to be seen later, and that each request keeps it so.
 use Rattle.std.proofs.Common.{◌≡◌, ◌⊎◌, inl, inr, ℕ, ◌<◌, ◌≤◌, Bool, true, false, List, [], ◌∷◌, Some, refl, sym, subst, arith}
 use Rattle.std.specs.Prelude.{IsTrue, nat_le, if◌then◌else◌}
-use Rattle.std.proofs.lemmas.Bool.{cases_lt, cond_both, leb-false}
+use Rattle.std.proofs.lemmas.Bool.{cases_lt, leb-false}
 use Rattle.rss_names.specs.declared.attempt.Attempt.{Attempt}
 use Rattle.rss_names.specs.declared.service.Key.{Key}
 use Rattle.rss_wire.specs.declared.messages.Request.{Request}
@@ -17,7 +17,7 @@ use Rattle.rss_tables.specs.Versions.{versions_of, last_upto, opening_version}
 use Rattle.rss_tables.proofs.ShardLaws.{floor-rises}
 use Rattle.rss_tables.proofs.TableLaws.{upto-time}
 use Rattle.shard_laws.specs.Changes.{IsPreparedBy}
-use Rattle.shard_laws.specs.Closed.{EachOf, IsAbove, AreRising, writes_key}
+use Rattle.shard_laws.specs.Closed.{EachOf, AreRising, writes_key}
 use Rattle.shard_laws.specs.Committed.{version_by}
 use Rattle.shard_laws.specs.Served.{IsReached}
 use Rattle.shard_laws.specs.Snapshots.{IsBefore}
@@ -27,6 +27,7 @@ use Rattle.shard_laws.specs.Orderly.{IsOrderly, IsInOrder}
 use Rattle.shard_laws.proofs.Fresh.{answer_skips, answer_version, answer_waits, answer_closes}
 use Rattle.shard_laws.proofs.Prepares.{prepare_from}
 use Rattle.shard_laws.proofs.Wrote.{some_value, versions_from}
+use Rattle.shard_laws.proofs.Answered.{last_not_older}
 
 -- a prepared writer of a key stands above a read time, or its call cannot end before that
 abbrev pub IsLate : ℕ → PreparedWriter → Type 0
@@ -71,21 +72,13 @@ shown_stays sh latest q o in_order read_time key P h f = record {
 abbrev pub IsSeen : ℕ → Version → Version → Type 0
 IsSeen read_time v u = (u.time ≤ v.time) ⊎ (read_time < u.time)
 
--- what shows is not before what was found, where versions above it rise
-shows_from : (bound time : ℕ) (vs : List Version) (found : Version) → EachOf (IsAbove bound) vs → bound ≤ found.time → bound ≤ (last_upto found time vs).time
-shows_from bound time [] found h l = l
-shows_from bound time (v ∷ vs) found h l =
-    let a : bound < v.time = h.0 in
-    cond_both (nat_le v.time time) v found (λ (f : Version). bound ≤ (last_upto f time vs).time)
-    (λ e. shows_from bound time vs v h.1 (omega (arith, a))) (λ e. shows_from bound time vs found h.1 l)
-
 -- of versions that rise, each is at or before the one that shows, or above the time
 each_seen : (time : ℕ) (vs : List Version) (found : Version) → AreRising vs → EachOf (IsSeen time (last_upto found time vs)) vs
 each_seen time [] found r = tt
 each_seen time (v ∷ vs) found r = by_test (nat_le v.time time) refl (each_seen time vs v r.1) (each_seen time vs found r.1)
   where
     by_test : (b : Bool) → nat_le v.time time ≡ b → EachOf (IsSeen time (last_upto v time vs)) vs → EachOf (IsSeen time (last_upto found time vs)) vs → EachOf (IsSeen time (last_upto (if b then v else found) time vs)) (v ∷ vs)
-    by_test true e ih jh = (inl (shows_from v.time time vs v r.0 (omega arith)), ih)
+    by_test true e ih jh = (inl (last_not_older v.time time vs v r.0 (omega arith)), ih)
     by_test false e ih jh = (inr (leb-false v.time time e), jh)
 
 -- who asks for a snapshot neither prepares nor commits

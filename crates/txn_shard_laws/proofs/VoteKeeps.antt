@@ -1,36 +1,32 @@
 -- What becomes of each vote, as every event keeps it.
-use Rattle.std.proofs.Common.{◌≡◌, ◌⊎◌, inl, inr, ℕ, ◌≤◌, List, length, sym, ap, ◌∙◌, subst, arith}
+use Rattle.std.proofs.Common.{◌≡◌, ◌⊎◌, inl, inr, ℕ, ◌≤◌, List, length, sym, ap, ◌∙◌, subst}
 use Rattle.truetime.specs.Reading.{Reading}
 use Rattle.rss_names.specs.declared.attempt.Attempt.{Attempt}
 use Rattle.rss_names.specs.declared.service.Key.{Key}
-use Rattle.rss_names.specs.declared.service.Target.{Target}
 use Rattle.rss_names.specs.declared.service.Target.TheVariants.{Shard}
 use Rattle.pipeline_lang.specs.declared.config.Config.{Config}
 use Rattle.rss_wire.specs.Messages.{message_at}
 use Rattle.rss_wire.specs.declared.messages.Outcome.{Outcome}
 use Rattle.rss_wire.specs.declared.messages.Outcome.TheVariants.{Committed, Aborted}
-use Rattle.rss_wire.specs.declared.messages.Reply.{Reply}
 use Rattle.rss_wire.specs.declared.messages.Reply.TheVariants as reply
-use Rattle.rss_wire.specs.declared.messages.Request.{Request}
 use Rattle.rss_wire.specs.declared.messages.Request.TheVariants.{Prepare}
 use Rattle.rss_tables.specs.ShardRow.{Shard as ShardState, shard_after, shard_reply}
-use Rattle.rss_tables.specs.TransactionSession.{TxnSession}
 use Rattle.rss_machine.specs.Moves.{ticks}
 use Rattle.rss_machine.specs.State.{State, start, shard_at}
 use Rattle.shard_laws.specs.Fitting.{IsPreparedAt}
 use Rattle.shard_laws.proofs.Prepares.{prepared_told}
 use Rattle.shard_event_laws.specs.Events.{WasAsked}
 use Rattle.txn_state_laws.specs.Decided.{AllDecided}
-use Rattle.txn_state_laws.specs.Framed.{AllFramed, LinesFit, OfAttempt}
+use Rattle.txn_state_laws.specs.Framed.{AllFramed, LinesFit}
 use Rattle.txn_state_laws.specs.Justified.{AllJust, Kept, PrepareIs}
 use Rattle.txn_state_laws.specs.Onward.{Between}
 use Rattle.txn_state_laws.specs.Orderly.{AllOrderly, AllInOrder}
-use Rattle.txn_laws.specs.Given.{IsReplyOf}
 use Rattle.txn_state_laws.specs.Replied.{Replied}
 use Rattle.txn_state_laws.specs.Voted.{AllVoted, VoteIs, LineApplied, prepared, aborted, applied}
 use Rattle.txn_state_laws.proofs.Grows.{DecisionsStay, line_first, line_last}
 use Rattle.txn_state_laws.proofs.Replies.{Quiet, Serves, event_does, quiet_reply, served_reply, reply_asked, ReplyComes, was, comes}
 use Rattle.txn_state_laws.proofs.Serves.{ShardGoes, stays, serves, goes, served_there, serves_at, decisions_stay}
+use Rattle.txn_state_laws.proofs.Starts.{nothing_replied, replied_ticks, attempt_ticks}
 use Rattle.txn_shard_laws.proofs.VoteServes.{vote_serves, vote_stays}
 
 -- a shard on which an attempt asks to be prepared is one of the list
@@ -99,23 +95,17 @@ voted_keeps c at s t b just decided decided' orderly in_order voted = record { e
 -- before the first step nobody was told anything
 pub voted_start : (c : Config) → AllVoted (start c)
 voted_start c = record {
-  each = λ n a least earliest_end writes time r.
-      let numbered = r.is.numbered in
-      let sent = r.is.sent in
-      absurd (omega (arith, numbered, sent));
+  each = λ n a least earliest_end writes time r. absurd (nothing_replied c _ _ _ r);
 }
 
 -- where a step is counted, nothing else changes
-of_ticks : (s : State) (at : Reading) (a : Attempt) (x : TxnSession) → OfAttempt s a x → OfAttempt (ticks s at) a x
-of_ticks s at a x of = record { under_way = of.under_way; first = of.first; last = of.last }
-
 kept_ticks : (s : State) (at : Reading) (a : Attempt) (outcome : Outcome) → Kept s a outcome → Kept (ticks s at) a outcome
-kept_ticks s at a outcome k = record { txn = k.txn; of = of_ticks s at a k.txn k.of; kept = k.kept }
+kept_ticks s at a outcome k = record { txn = k.txn; of = attempt_ticks s at a k.txn k.of; kept = k.kept }
 
 applied_ticks : (s : State) (at : Reading) (n : ℕ) (a : Attempt) (time : ℕ) → LineApplied s n a time → LineApplied (ticks s at) n a time
 applied_ticks s at n a time l = record {
   txn = l.txn;
-  of = of_ticks s at a l.txn l.of;
+  of = attempt_ticks s at a l.txn l.of;
   present = l.present;
   line = l.line;
   is_line = l.is_line;
@@ -127,12 +117,9 @@ vote_ticks s at n a time (prepared v) = prepared v
 vote_ticks s at n a time (aborted k) = aborted (kept_ticks s at a Aborted k)
 vote_ticks s at n a time (applied commit_time k l g line) = applied commit_time (kept_ticks s at a (Committed commit_time) k) l g (applied_ticks s at n a commit_time line)
 
-reply_ticks : (s : State) (at : Reading) (m : ℕ) (target : Target) (q : Request) (r : Reply) → IsReplyOf (ticks s at) m target q r → IsReplyOf s m target q r
-reply_ticks s at m target q r i = record { numbered = i.numbered; sent = i.sent; says = i.says; asked = i.asked; from = i.from }
-
 pub voted_ticks : (s : State) (at : Reading) → AllVoted s → AllVoted (ticks s at)
 voted_ticks s at voted = record {
   each = λ n a least earliest_end writes time r.
       vote_ticks s at n a time
-      (voted.each n a least earliest_end writes time record { message = r.message; is = reply_ticks s at r.message (Shard n) (Prepare a least earliest_end writes) (reply.Prepared time) r.is });
+      (voted.each n a least earliest_end writes time (replied_ticks s at (Shard n) (Prepare a least earliest_end writes) (reply.Prepared time) r));
 }
