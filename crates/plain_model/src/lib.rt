@@ -17,6 +17,3 @@ pub use causality::causal;
 pub use formulas::{formula_value, guard_holds};
 pub use legality::{legal, shown_at};
 pub use regularity::regular;
-
-#[cfg(test)]
-mod row_tests;

@@ -9,6 +9,3 @@ mod told;
 mod ways;
 
 pub use runs::script_run;
-
-#[cfg(test)]
-mod row_tests;

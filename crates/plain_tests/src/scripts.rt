@@ -1,22 +1,12 @@
 //! Histories in which stages run their scripts, each also with one change after which one does not.
 
-use crate::script_run;
+use crate::telling::{Q, R, Telling};
 use pipeline_lang::{Body, Compare, Config, Expr, NameTable, PipeEnds, Script, Statement, Term};
-use rss_model::{Entry, History, How, Op, Shown, Token};
-use rss_names::{CallId, Key, Seq, ServiceId, StageId};
+use plain_script::script_run;
+use rss_model::{History, How, Op, Shown, Token};
+use rss_names::{Key, Seq, StageId};
 use std::alloc::{AllocError, Global};
 use std::test::Fail;
-
-/// A register.
-const R: Key = Key {
-    service: ServiceId::Reg(1),
-    index: 0,
-};
-/// Another register.
-const Q: Key = Key {
-    service: ServiceId::Reg(1),
-    index: 1,
-};
 
 // The expression of a number.
 fn number(n: u64) -> Expr<u8> {
@@ -66,83 +56,20 @@ impl Writing {
     }
 }
 
-/// A history that is being written; entries whose stage or call is out of range are left out.
-#[derive(Drop)]
-struct Telling {
-    alloc: Global,
-    entries: Vec<Entry>,
+// Stage 1 spawns stage 2.
+fn spawn_second(telling: &mut Telling) -> Result<(), AllocError> {
+    if let Some(second) = StageId::new(2) {
+        telling.give(1, Token::Spawn(second))?;
+        telling.get(2, Token::Spawn(second))?;
+    }
+    Ok(())
 }
 
-impl Telling {
-    fn new(alloc: Global) -> Telling {
-        Telling {
-            alloc,
-            entries: Vec::new(alloc),
-        }
-    }
-
-    // A stage makes a call that shows this.
-    fn call(&mut self, call: u32, stage: u8, op: Op, shown: &[Shown]) -> Result<(), AllocError> {
-        let reply = Seq::from_vec(Vec::from_slice(self.alloc, shown)?);
-        if let Some(call) = CallId::new(call)
-            && let Some(stage) = StageId::new(stage)
-        {
-            self.entries.push(Entry::Begin(call, stage, op))?;
-            self.entries.push(Entry::End(call, reply))?;
-        }
-        Ok(())
-    }
-
-    fn give(&mut self, stage: u8, token: Token) -> Result<(), AllocError> {
-        if let Some(stage) = StageId::new(stage) {
-            self.entries.push(Entry::Give(stage, token))?;
-        }
-        Ok(())
-    }
-
-    fn get(&mut self, stage: u8, token: Token) -> Result<(), AllocError> {
-        if let Some(stage) = StageId::new(stage) {
-            self.entries.push(Entry::Get(stage, token))?;
-        }
-        Ok(())
-    }
-
-    // A stage is over, and gives nothing yet.
-    fn over(&mut self, stage: u8, how: How) -> Result<(), AllocError> {
-        if let Some(stage) = StageId::new(stage) {
-            self.entries.push(Entry::Over(stage, how))?;
-        }
-        Ok(())
-    }
-
-    // A stage gives its exit.
-    fn give_exit(&mut self, stage: u8) -> Result<(), AllocError> {
-        if let Some(stage) = StageId::new(stage) {
-            self.entries.push(Entry::Give(stage, Token::Exit(stage)))?;
-        }
-        Ok(())
-    }
-
-    // Stage 1 spawns stage 2.
-    fn spawn_second(&mut self) -> Result<(), AllocError> {
-        if let Some(second) = StageId::new(2) {
-            self.give(1, Token::Spawn(second))?;
-            self.get(2, Token::Spawn(second))?;
-        }
-        Ok(())
-    }
-
-    // Stage 1 gets the exit of stage 2.
-    fn wait_for_second(&mut self) -> Result<(), AllocError> {
-        match StageId::new(2) {
-            Some(second) => self.get(1, Token::Exit(second)),
-            None => Ok(()),
-        }
-    }
-
-    fn told(self) -> History {
-        let Telling { alloc: _, entries } = self;
-        Seq::from_vec(entries)
+// Stage 1 gets the exit of stage 2.
+fn wait_for_second(telling: &mut Telling) -> Result<(), AllocError> {
+    match StageId::new(2) {
+        Some(second) => telling.get(1, Token::Exit(second)),
+        None => Ok(()),
     }
 }
 
@@ -303,7 +230,7 @@ fn until_over(alloc: Global, how: How) -> Result<Telling, AllocError> {
     };
     let mut telling = Telling::new(alloc);
     telling.call(1, 1, Op::Read(Q), &[five])?;
-    telling.spawn_second()?;
+    spawn_second(&mut telling)?;
     telling.call(2, 2, Op::Write(Q, 1), &[])?;
     telling.over(2, how)?;
     Ok(telling)
@@ -313,7 +240,7 @@ fn until_over(alloc: Global, how: How) -> Result<Telling, AllocError> {
 fn waited(alloc: Global, how: How, written: u64) -> Result<History, AllocError> {
     let mut telling = until_over(alloc, how)?;
     telling.give_exit(2)?;
-    telling.wait_for_second()?;
+    wait_for_second(&mut telling)?;
     telling.call(3, 1, Op::Write(R, written), &[])?;
     telling.over(1, How::Exited)?;
     telling.give_exit(1)?;
@@ -354,39 +281,35 @@ fn vain_runs(alloc: Global, written: u64) -> Result<(bool, bool), AllocError> {
 #[test]
 fn pipes(rt: HostRuntime) -> Result<(), Fail> {
     let alloc = rt.alloc();
-    assert_eq!(rt; passing_runs(alloc, 8)?, (true, true), "passed on");
-    assert_eq!(rt; passing_runs(alloc, 7)?, (true, false), "another value");
-    Ok(())
-}
-
-#[test]
-fn deaths(rt: HostRuntime) -> Result<(), Fail> {
-    let alloc = rt.alloc();
-    assert_eq!(rt; killed_runs(alloc, true, true)?, (true, true), "all");
-    assert_eq!(rt; killed_runs(alloc, false, false)?, (true, true), "nothing");
-    assert_eq!(rt; killed_runs(alloc, true, false)?, (false, true), "half");
+    let rows = [
+        ("passed on", passing_runs(alloc, 8)?, (true, true)),
+        ("another value", passing_runs(alloc, 7)?, (true, false)),
+        ("all", killed_runs(alloc, true, true)?, (true, true)),
+        ("nothing", killed_runs(alloc, false, false)?, (true, true)),
+        ("half", killed_runs(alloc, true, false)?, (false, true)),
+    ];
+    for (name, runs, wanted) in rows {
+        assert_eq!(rt; runs, wanted, "{name}");
+    }
     Ok(())
 }
 
 #[test]
 fn spawns(rt: HostRuntime) -> Result<(), Fail> {
     let alloc = rt.alloc();
-    assert_eq!(rt;
-        waiting_runs(alloc, How::Exited, 5)?,
-        (true, true),
-        "exited"
-    );
-    assert_eq!(rt;
-        waiting_runs(alloc, How::Killed, 6)?,
-        (true, true),
-        "killed"
-    );
-    assert_eq!(rt;
-        waiting_runs(alloc, How::Killed, 5)?,
-        (false, true),
-        "status"
-    );
-    assert_eq!(rt; vain_runs(alloc, 7)?, (true, true), "in vain");
-    assert_eq!(rt; vain_runs(alloc, 6)?, (false, true), "not in vain");
+    let rows = [
+        ("exited", waiting_runs(alloc, How::Exited, 5)?, (true, true)),
+        ("killed", waiting_runs(alloc, How::Killed, 6)?, (true, true)),
+        (
+            "status",
+            waiting_runs(alloc, How::Killed, 5)?,
+            (false, true),
+        ),
+        ("in vain", vain_runs(alloc, 7)?, (true, true)),
+        ("not in vain", vain_runs(alloc, 6)?, (false, true)),
+    ];
+    for (name, runs, wanted) in rows {
+        assert_eq!(rt; runs, wanted, "{name}");
+    }
     Ok(())
 }
