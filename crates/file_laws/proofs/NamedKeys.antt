@@ -101,7 +101,7 @@ goes : (P : ℕ → Type 0) (left : Option ℕ) → Goes P left → (n : ℕ) ×
 goes P (Some n) h = (n, h)
 goes P None h = absurd h
 
-statements_each : (raw : List Raw) (n : ℕ) → AreStatements raw n → Each IsStatement raw
+pub statements_each : (raw : List Raw) (n : ℕ) → AreStatements raw n → Each IsStatement raw
 unfolding AreStatements
 statements_each [] n h = tt
 statements_each (s ∷ ss) n h = let rest = goes (AreStatements ss) (open_behind n s) h.1 in (h.0, statements_each ss rest.0 rest.1)

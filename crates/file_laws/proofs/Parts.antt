@@ -38,7 +38,7 @@ bound_well : (n : ℕ) (text : List ℕ) (came : Result (List Bound) ScriptFault
 bound_well n text (Ok made) script h = ap Ok (ok_same made script h)
 bound_well n text (Err f) script h = absurd cc
 
-script_well : (d : Declared) (r : Resolved) (n : ℕ) (spawned text : List ℕ) (script : List Bound) → script_said d r n spawned text ≡ Ok script → IsSaid (naming_of d r n spawned) text script
+pub script_well : (d : Declared) (r : Resolved) (n : ℕ) (spawned text : List ℕ) (script : List Bound) → script_said d r n spawned text ≡ Ok script → IsSaid (naming_of d r n spawned) text script
 unfolding script_said
 script_well d r n spawned text script h =
     let raw = went (syntax n (script_of text)) (λ raw. bound_or n text (outcome (naming_of d r n spawned) raw)) script h in

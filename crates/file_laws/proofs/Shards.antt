@@ -19,7 +19,7 @@ use Rattle.file_laws.proofs.Went.{ok_same, went, went_onto, after}
 use Rattle.file_laws.proofs.Limits.{few_tables}
 
 -- as many rows as tables
-rows_many : {A : Type 0} (says : ℕ → Members → Result A FileFault) (at : Place) (n : ℕ) (items : Items) (rows : List A) → rows_from says at n items ≡ Ok rows → length rows ≡ item_count items
+pub rows_many : {A : Type 0} (says : ℕ → Members → Result A FileFault) (at : Place) (n : ℕ) (items : Items) (rows : List A) → rows_from says at n items ≡ Ok rows → length rows ≡ item_count items
 unfolding rows_from item_count
 rows_many says at n no_items rows h = sym (ap length (ok_same [] rows h))
 rows_many says at n (item value items) rows h =
@@ -49,7 +49,7 @@ shards_few keyed t = after HasFewShards t (root_of keyed) _ (λ root _.
     subst HasFewShards (ok_same _ t made) (few_rows root keyed shards said))))))))
 
 -- as many meanings as rows
-meanings_many : {A B : Type 0} (means : ℕ → A → Result B FileFault) (n : ℕ) (rows : List A) (meanings : List B) → each_from means n rows ≡ Ok meanings → length meanings ≡ length rows
+pub meanings_many : {A B : Type 0} (means : ℕ → A → Result B FileFault) (n : ℕ) (rows : List A) (meanings : List B) → each_from means n rows ≡ Ok meanings → length meanings ≡ length rows
 unfolding each_from
 meanings_many means n [] meanings h = sym (ap length (ok_same [] meanings h))
 meanings_many means n (row ∷ rows) meanings h =

@@ -1,0 +1,15 @@
+pub mod Tested
+pub mod Above
+pub mod Bodies
+pub mod Named
+pub mod Spawned
+pub mod Piped
+pub mod Keyed
+pub mod TxnKeys
+pub mod Serviced
+pub mod Said
+pub mod Ranges
+pub mod Resolved
+pub mod Defined
+pub mod Depths
+pub mod Sound
