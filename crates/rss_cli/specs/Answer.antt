@@ -3,6 +3,7 @@ use Rattle.std.specs.Prelude.{ℕ, ◌≡◌, ◌≢◌, ◌<◌, ◌≤◌, ◌
 use Rattle.std.specs.Io.KnownBytes.{Appends, Keeps}
 use Rattle.rss_io.specs.Pieces.{AppendsFront}
 use Rattle.pipeline_lang.specs.declared.config.Config.{Config}
+use Rattle.rss_machine.specs.Built.{is_built}
 use Rattle.rss_machine.specs.Endings.{ending_of}
 use Rattle.rss_machine.specs.Headline.{KeepsPromise}
 use Rattle.rss_machine.specs.declared.step.Step.{Step}
@@ -10,7 +11,6 @@ use Rattle.rss_machine.specs.declared.step.StepRefusal.{StepRefusal}
 use Rattle.step_text.specs.Spelling.{IsStep, text_of}
 use Rattle.step_text.specs.Texts.{IsBadStep}
 use Rattle.rss_cli.specs.FaultText.{fault_text}
-use Rattle.rss_cli.specs.Served.{is_served}
 use Rattle.rss_cli.specs.Played.{IsFirstRefused}
 use Rattle.rss_cli.specs.Reported.{IsReport}
 use Rattle.rss_cli.specs.Split.{Splits}
@@ -61,12 +61,12 @@ IsStepsAnswer c behind text status = IsSpelled c behind text status ⊎ IsOffGra
 
 -- the file is one that runs
 pub record IsBuiltFile (config : Config) (behind text : List ℕ) (status : Status) : Type 0 where
-  pub built : is_served config ≡ true
+  pub built : is_built config ≡ true
   pub answer : IsStepsAnswer config behind text status
 
 -- the file is valid, and does not run yet
 pub record IsNotBuilt (config : Config) (text : List ℕ) (status : Status) : Type 0 where
-  pub not_built : is_served config ≡ false
+  pub not_built : is_built config ≡ false
   pub told : text ≡ fault_text fault.NotBuilt
   pub status_is : status ≡ File
 

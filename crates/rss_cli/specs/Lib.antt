@@ -1,6 +1,5 @@
 pub mod Statuses
 pub mod FaultText
-pub mod Served
 pub mod Split
 pub mod Played
 pub mod Reported

@@ -3,7 +3,7 @@ use Rattle.std.specs.Prelude.{ℕ, ◌≡◌, ◌+◌, Bool, true, List, [], ◌
 use Rattle.std.specs.List.{list_all}
 use Rattle.pipeline_lang.specs.declared.config.Config.{Config}
 use Rattle.truetime.specs.Reading.{AreConsistent}
-use Rattle.stage_laws.specs.Apart.{are_numbered}
+use Rattle.world_laws.specs.Numbered.{are_numbered}
 use Rattle.rss_machine.specs.State.{State}
 use Rattle.rss_machine.specs.Built.{built_refusal, is_built_step}
 use Rattle.rss_machine.specs.Run.{run, readings_of}

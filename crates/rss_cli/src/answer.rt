@@ -1,13 +1,13 @@
 //! Answers: the text and the status for an input, all made before the first byte is written.
 
 ghost use Rattle.std.specs.Prelude.{◌≡◌, ◌≤◌, true, false, IfOk, length};
+ghost use Rattle.rss_machine.specs.Built.{is_built};
 ghost use Rattle.rss_machine.specs.Endings.{ending_of};
-ghost use Rattle.reg_laws.specs.Files.{IsInOrder};
 ghost use Rattle.rss_cli.specs.Answer.{IsRead, IsReplayed, IsPlayed, IsStepsAnswer, IsFileAnswer, IsConfigAnswer, IsNotBuilt, steps_limit, input_limit, is_answer};
 ghost use Rattle.rss_cli.specs.FaultText.{fault_text};
-ghost use Rattle.rss_cli.specs.Served.{is_served};
 ghost use Rattle.rss_cli.specs.Reported.{IsReport};
 ghost use Rattle.rss_cli.specs.Statuses.{status_of};
+ghost use Rattle.world_laws.specs.Shapes.{IsSoundFile};
 
 use crate::fault::Fault;
 use crate::fault_lines::fault_line;
@@ -70,7 +70,7 @@ fn file_answer(alloc: Global, file: &[u8], behind: &[u8]) -> Result<Answer, Allo
 
 // The answer to a configuration and the step text behind it.
 fn config_answer(alloc: Global, config: Config, behind: &[u8]) -> Result<Answer, AllocError>
-    requires in_order { IsInOrder config }
+    requires sound { IsSoundFile config }
     requires short { length behind.now ≤ steps_limit }
     ensures answer { IfOk result (λ a. IsConfigAnswer config behind.now a.text.items a.status) }
     ensures status { IfOk result (λ a. is_answer a.status ≡ true) }
@@ -84,7 +84,7 @@ fn config_answer(alloc: Global, config: Config, behind: &[u8]) -> Result<Answer,
 
 // The answer to a configuration that does not run yet.
 fn not_built(alloc: Global, config: &Config) -> Result<Answer, AllocError>
-    requires { is_served config.now ≡ false }
+    requires { is_built config.now ≡ false }
     ensures answer { IfOk result (λ a. IsNotBuilt config.now a.text.items a.status) }
     ensures status { IfOk result (λ a. is_answer a.status ≡ true) }
 {
@@ -94,8 +94,8 @@ fn not_built(alloc: Global, config: &Config) -> Result<Answer, AllocError>
 
 // The answer to the step text of a configuration.
 fn steps_answer(alloc: Global, config: Config, behind: &[u8]) -> Result<Answer, AllocError>
-    requires built { is_served config ≡ true }
-    requires in_order { IsInOrder config }
+    requires built { is_built config ≡ true }
+    requires sound { IsSoundFile config }
     requires short { length behind.now ≤ steps_limit }
     ensures answer { IfOk result (λ a. IsStepsAnswer config behind.now a.text.items a.status) }
     ensures status { IfOk result (λ a. is_answer a.status ≡ true) }
@@ -115,8 +115,8 @@ fn steps_answer(alloc: Global, config: Config, behind: &[u8]) -> Result<Answer, 
 
 // The answer to a list of steps of a configuration.
 fn played(alloc: Global, config: Config, steps: &[Step]) -> Result<Answer, AllocError>
-    requires built { is_served config ≡ true }
-    requires in_order { IsInOrder config }
+    requires built { is_built config ≡ true }
+    requires sound { IsSoundFile config }
     ensures answer { IfOk result (λ a. IsPlayed config steps.now a.text.items a.status) }
     ensures status { IfOk result (λ a. is_answer a.status ≡ true) }
 {

@@ -7,7 +7,7 @@ ghost use Rattle.rss_cli.specs.Played.{HasPlayed, IsPlayError};
 use event_world::World;
 use pipeline_lang::Config;
 use rss_machine::{Step, StepRefusal};
-use stage_laws::step_names_its_stage;
+use token_laws::step_names_its_stage;
 use std::alloc::{AllocError, Global};
 use thiserror::Error;
 

@@ -2,21 +2,14 @@
 
 ghost use Rattle.std.specs.Prelude.{◌≡◌};
 ghost use Rattle.std.specs.List.{list_all};
-ghost use Rattle.rss_machine.specs.Built.{is_register_service as register_service, service_of_script as script_service, is_built_statement as built_statement, is_built_script as built_script, has_few_replicas as few_replicas};
+ghost use Rattle.rss_machine.specs.Built.{is_register_service as register_service, service_of_script as script_service, is_built_statement as built_statement, is_built_script as built_script, has_few_replicas as few_replicas, is_built};
 ghost use Rattle.pipeline_lang.specs.declared.config.Body.{Body as StageBody};
-ghost use Rattle.rss_cli.specs.Served.{is_served, has_places as places, is_within as within};
 
 use pipeline_lang::{Body, Config, ServiceDef, Statement};
 use rss_names::{Key, ServiceId, StageId, is_same_service};
 
-/// The greatest number of steps that a file can allow.
-const MOST_STEPS: u32 = 200_000;
-
 /// The greatest number of stages.
 const MOST_STAGES: usize = 16;
-
-/// The greatest number of a register service.
-const MOST_SERVICES: u8 = 8;
 
 /// The greatest number of replicas of a service.
 const MOST_REPLICAS: u8 = 7;
@@ -91,37 +84,12 @@ fn have_few_replicas(services: &[ServiceDef]) -> bool
     services.iter().all(|def| def.replicas <= MOST_REPLICAS)
 }
 
-// Whether the losses of each replica of a service are kept.
-fn has_places(def: &ServiceDef) -> bool
-    ensures { result ≡ places def.now }
-{
-    match def.id {
-        ServiceId::Reg(number) => 1 <= number && number <= MOST_SERVICES,
-        ServiceId::Txn(_) => def.replicas == 0,
-    }
-}
-
-// Whether they are kept of all services.
-fn have_places(services: &[ServiceDef]) -> bool
-    ensures { result ≡ list_all places services.now }
-{
-    services.iter().all(|def| has_places(def))
-}
-
-// Whether a file has what every valid file has.
-fn is_within(config: &Config) -> bool
-    ensures { result ≡ within config.now }
-{
-    config.max_steps <= MOST_STEPS && config.tries >= 1 && have_places(config.services.as_slice())
-}
-
 /// Whether the program runs a file.
 pub fn served(config: &Config) -> bool
-    ensures { result ≡ is_served config.now }
+    ensures { result ≡ is_built config.now }
 {
     are_built_bodies(config.bodies.as_slice())
         && config.bodies.len() <= MOST_STAGES
         && have_few_replicas(config.services.as_slice())
         && config.pipe_ends.len() == 0
-        && is_within(config)
 }

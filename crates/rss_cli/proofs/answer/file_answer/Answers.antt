@@ -1,6 +1,6 @@
--- A file that is read is in order.
-use Rattle.rss_cli.proofs.Promised.{read_in_order}
+-- A file that is read is sound.
+use Rattle.rss_cli.proofs.Promised.{read_sound}
 use Rattle.rss_cli.proofs.answer.file_answer.Goals as goal
 
-pub config_answer-requires-clause-in_order : goal.config_answer-requires-clause-in_order
-config_answer-requires-clause-in_order c = read_in_order c.args.file.now c.in-Ok.config c.in-Ok.ensures.said
+pub config_answer-requires-clause-sound : goal.config_answer-requires-clause-sound
+config_answer-requires-clause-sound c = read_sound c.args.file.now c.in-Ok.config c.in-Ok.ensures.said

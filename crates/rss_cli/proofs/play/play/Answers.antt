@@ -2,7 +2,7 @@
 use Rattle.std.proofs.Common.{◌∙◌}
 use Rattle.rss_machine.specs.Built.{is_built_step}
 use Rattle.rss_machine.specs.declared.step.Step.{Step}
-use Rattle.stage_laws.specs.Apart.{is_numbered}
+use Rattle.world_laws.specs.Numbered.{is_numbered}
 use Rattle.event_world.proofs.Allowed.{allowed_parts}
 use Rattle.rss_cli.proofs.Plays.{log_more, first_refused, all_more, all_played}
 use Rattle.rss_cli.proofs.play.play.Goals as goal

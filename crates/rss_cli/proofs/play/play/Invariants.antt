@@ -1,5 +1,5 @@
 use Rattle.std.proofs.Common.{◌≡◌, true, take}
-use Rattle.stage_laws.specs.Apart.{are_numbered}
+use Rattle.world_laws.specs.Numbered.{are_numbered}
 use Rattle.rss_cli.specs.Played.{replayed, are_built}
 use Rattle.rss_cli.proofs.play.play.Given as goal
 
