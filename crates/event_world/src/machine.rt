@@ -27,7 +27,6 @@ pub const MOST_DEPS: usize = 1;
 
 /// The parts of the World that steps change, and the file. Contracts read the machine's state from
 /// them.
-#[derive(Drop)]
 pub struct Machine {
     pub config: Config,
     /// The number of steps made.
@@ -51,6 +50,27 @@ pub struct Machine {
     /// Room for the reply of the call that ends next.
     pub shown: Vec<Shown>,
     pub alloc: Global,
+}
+
+// Written out, so that a caller who lets a machine go sees one call and none of its parts.
+impl Drop for Machine {
+    fn drop(self) {
+        let Machine {
+            config: _config,
+            steps: _steps,
+            moment: _moment,
+            moments: _moments,
+            stages: _stages,
+            owners: _owners,
+            net: _net,
+            registers: _registers,
+            history: _history,
+            outbox: _outbox,
+            lists: _lists,
+            shown: _shown,
+            alloc: _alloc,
+        } = self;
+    }
 }
 
 impl Machine {

@@ -41,6 +41,7 @@ impl Machine {
     {
         match self.owner(call.number()) {
             Some(owner) => {
+                // for its clauses alone: the session is one of registers
                 let _ = owner.phase();
                 matches!(owner.work(), Some(RegWork::Read(_)))
             }
@@ -84,6 +85,7 @@ impl Machine {
         requires built { is_built self.now.config ≡ true }
         ensures { result ≡ blocked_by (next_for self.now.config (state_of self.now) stage) }
     {
+        // for their clauses alone: neither the stage nor its stub waits for another
         let _acts = self.may_act(stage);
         let _settles = self.stub_may_act(stage);
         self.see(stage);
@@ -97,6 +99,7 @@ impl Machine {
         if let Some(found) = self.stage(stage) {
             if let Some(call) = found.owner() {
                 if let Some(owner) = self.owner(call) {
+                    // for its clauses alone: the session is one of registers
                     let _ = owner.phase();
                 }
             }

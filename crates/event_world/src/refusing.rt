@@ -46,6 +46,7 @@ impl Machine {
         requires built { is_built self.now.config ≡ true }
         ensures { result ≡ if_built (is_built_kind kind) (kind_refusal_of self.now.config (state_of self.now) at kind) }
     {
+        // the clause alone speaks of the reading
         let _ = at;
         match kind {
             StepKind::Act(stage) => self.act_refusal(stage),

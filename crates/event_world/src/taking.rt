@@ -74,6 +74,7 @@ impl Machine {
         ensures config { self.new.config ≡ self.old.config }
         ensures quiet { IsQuiet self.new }
     {
+        // the clause alone speaks of the reading
         let _ = at;
         if self.may_act(stage) {
             self.act_idle(stage);

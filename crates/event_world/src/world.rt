@@ -97,6 +97,7 @@ impl World {
             return Err(cause);
         }
         let at = s.at;
+        // for its clauses alone: the reading does not end before it begins
         let _latest = at.latest();
         self.machine.take(s);
         let logged = Logged { step: *s, driver };
@@ -175,6 +176,7 @@ impl World {
     pub fn planned(&self, service: ServiceId) -> u32
         ensures { result ≡ count_at (place_of service) self.now.state.planned }
     {
+        // the clause alone speaks of them
         let _ = service;
         let _ = &self.machine;
         0
