@@ -3,11 +3,12 @@
 ghost use Rattle.std.specs.Prelude.{◌≡◌, ◌+◌, ◌<◌, ◌≤◌, [], OnOk, vec_capacity};
 
 use crate::spare::SpareList;
+use rss_names::MOST_KEYS_OF_A_CALL;
 use std::alloc::{AllocError, Global};
 use std::marker::Model;
 
 /// The greatest number of keys in a list of an operation.
-const WIDTH: usize = 8;
+const WIDTH: usize = MOST_KEYS_OF_A_CALL;
 
 /// Empty lists, each with room for the keys of an operation. Contracts see how many there are.
 #[derive(Drop)]

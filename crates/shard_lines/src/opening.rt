@@ -5,7 +5,7 @@ ghost use Rattle.rss_tables.specs.Lines.{keys_on, line_before, lines_of};
 ghost use Rattle.shard_lines.specs.Flat.{read_line, AreLines, AreBelow, AreHomed, home_in};
 
 use crate::flat::{FlatLine, Part};
-use rss_names::{Key, ShardId};
+use rss_names::{Key, MOST_SHARDS, ShardId};
 use rss_tables::LineState;
 use std::alloc::AllocError;
 
@@ -127,7 +127,7 @@ pub fn add_lines(
     ensures some { OnOk result (0 < vec_len lines.new) }
     ensures few { OnOk result (vec_len lines.new ≤ 16) }
 {
-    for at in 0..16u8 {
+    for at in 0..MOST_SHARDS {
         add_number(lines, keys, homes, at + 1, reads, writes)?;
     }
     Ok(())
