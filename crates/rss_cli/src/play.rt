@@ -7,9 +7,9 @@ ghost use Rattle.rss_cli.specs.Played.{HasPlayed, IsPlayError};
 use event_world::World;
 use pipeline_lang::Config;
 use rss_machine::{Step, StepRefusal};
-use token_laws::step_names_its_stage;
 use std::alloc::{AllocError, Global};
 use thiserror::Error;
+use token_laws::step_names_its_stage;
 
 /// Why not all steps were made.
 #[derive(Clone, Copy, Debug, PartialEq, Eq, Error)]
