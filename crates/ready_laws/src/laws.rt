@@ -1,7 +1,7 @@
-//! The laws of messages, links and operations. They hold no code: each is the contract of a function
-//! that does nothing.
+//! The laws of messages, links, stubs, dependencies and operations. They hold no code: each is the
+//! contract of a function that does nothing.
 
-ghost use Rattle.ready_laws.specs.Laws.{MessagesAreOwned, LinksAreSound, OperationsFitFiles};
+ghost use Rattle.ready_laws.specs.Laws.{MessagesAreOwned, LinksAreSound, OperationsFitFiles, StubsAreOfStages, DependenciesAreOnRegisters};
 
 /// In every run each message that was sent is of an owner that has begun, numbered from 1, and belongs to
 /// the exchange of a request that was sent; place 0 holds no message.
@@ -19,4 +19,15 @@ pub fn links_are_sound()
 /// service, numbered from 1 to 8, with keys of the file: it names some, and eight in each list at most.
 pub fn operations_fit_files()
     ensures { OperationsFitFiles }
+{}
+
+/// In every run of a file that is sound, where the steps name stages by their numbers from 1: the stub of
+/// a stage is a stub, of that stage, which is over. And a round of dependencies stores them.
+pub fn stubs_are_of_stages()
+    ensures { StubsAreOfStages }
+{}
+
+/// In every run of a file that is sound every dependency, wherever it lies, is on a register of the file.
+pub fn dependencies_are_on_registers()
+    ensures { DependenciesAreOnRegisters }
 {}

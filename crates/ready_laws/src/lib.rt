@@ -1,6 +1,6 @@
-//! Theory: what messages, links and operations are in every run.
+//! Theory: what messages, links, stubs, dependencies and operations are in every run.
 #![tactic(auto)]
 
 mod laws;
 
-pub use laws::{links_are_sound, messages_are_owned, operations_fit_files};
+pub use laws::{dependencies_are_on_registers, links_are_sound, messages_are_owned, operations_fit_files, stubs_are_of_stages};
