@@ -1,6 +1,6 @@
 -- How much more there is of everything in one state than in another.
-use Rattle.std.proofs.Common.{◌≡◌, ℕ, suc, ◌+◌, ◌-◌, ◌<◌, ◌≤◌, ◌⊎◌, Bool, true, false, ◌&&◌, List, [], ◌∷◌, ◌++◌, length, get_or, Option, Some, None, refl, ap, sym, ◌∙◌, subst, arith, leb}
-use Rattle.std.specs.Prelude.{⊤, replicate}
+use Rattle.std.proofs.Common.{◌≡◌, ℕ, ◌+◌, ◌-◌, ◌≤◌, Bool, true, ◌&&◌, List, length, get_or, Option, Some, None, refl, ap, sym, ◌∙◌, subst, arith, leb}
+use Rattle.std.specs.Prelude.{⊤}
 use Rattle.std.proofs.Math.ListN.{set}
 use Rattle.std.proofs.lemmas.Bool.{leb-true, and_parts}
 use Rattle.rss_names.specs.declared.attempt.Attempt.{Attempt}
@@ -15,7 +15,7 @@ use Rattle.rss_machine.specs.declared.session.OwnerKind.{OwnerKind}
 use Rattle.rss_machine.specs.declared.session.OwnerKind.TheVariants as kind
 use Rattle.rss_machine.specs.declared.session.Session.TheVariants as session
 use Rattle.world_laws.proofs.Looks.{looks, get_or_repeat}
-use Rattle.world_laws.proofs.Told.{each_set, each_grow}
+use Rattle.world_laws.proofs.Told.{each_set}
 
 -- the attempt of what an owner has under way
 abbrev pub attempt_number : Session → ℕ

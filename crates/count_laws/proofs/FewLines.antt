@@ -1,6 +1,6 @@
 -- A transaction and a snapshot keep as many lines as they began with, sixteen at most; a turn sends thirty-two requests at
 -- most, and begins one attempt at most.
-use Rattle.std.proofs.Common.{◌≡◌, ℕ, zero, suc, ◌+◌, ◌==◌, ◌≤◌, Bool, true, false, not, List, [], ◌∷◌, ◌++◌, length, map, Option, Some, None, refl, ap, sym, ◌∙◌, subst, arith, length-append}
+use Rattle.std.proofs.Common.{◌≡◌, ℕ, zero, suc, ◌+◌, ◌==◌, ◌≤◌, Bool, not, List, [], ◌∷◌, ◌++◌, length, map, ◌∙◌, arith, length-append}
 use Rattle.std.specs.List.{filter}
 use Rattle.std.proofs.lemmas.Bool.{cond_both}
 use Rattle.std.proofs.lemmas.List.{length-map}
@@ -12,11 +12,11 @@ use Rattle.rss_wire.specs.declared.messages.Outcome.{Outcome}
 use Rattle.rss_wire.specs.declared.messages.Outcome.TheVariants.{Committed, Aborted}
 use Rattle.rss_wire.specs.declared.messages.Reply.{Reply}
 use Rattle.rss_wire.specs.declared.messages.Reply.TheVariants as reply
-use Rattle.rss_tables.specs.Lines.{Line, lines_of, lines_from, keys_on, line_at, with_line, all_awaiting, only_awaiting, in_state, coordinator_of, shards_of, tells_decision, decision_request, blocked_state, blocked_outs, resolving_state, resolving_outs, sleeping_state, woken_state, woken_outs, all_answered, opening_line}
+use Rattle.rss_tables.specs.Lines.{Line, lines_of, lines_from, keys_on, line_at, with_line, all_awaiting, only_awaiting, in_state, coordinator_of, shards_of, tells_decision, decision_request, blocked_outs, resolving_outs, woken_outs, all_answered, opening_line}
 use Rattle.rss_tables.specs.Outs.{Out, line_out, told}
 use Rattle.rss_tables.specs.SnapshotSession.{SnapSession, snap_request, snap_asks, snap_phase_ends, second_round, snapshot_time, must_ask_again, asked_again, snap_told, snap_line_goes, snap_hears, snap_wakes}
 use Rattle.rss_tables.specs.Turns.{Turn, quiet}
-use Rattle.rss_tables.specs.TransactionSession.{TxnSession, attempt_of, txn_request, asks_lines, begins_phase, goes_to_prepare, goes_to_free_last, goes_to_free, failing_time, is_locked, is_prepared, phase_ends, is_phase_done, is_told, line_goes, is_wounded, is_committed, is_decided, txn_hears, txn_wakes, txn_passes, guard_of, values_shown, leads, wait_of}
+use Rattle.rss_tables.specs.TransactionSession.{TxnSession, attempt_of, txn_request, asks_lines, begins_phase, goes_to_prepare, goes_to_free_last, goes_to_free, failing_time, is_locked, phase_ends, is_phase_done, is_told, line_goes, is_committed, is_decided, txn_hears, txn_wakes, txn_passes, guard_of, values_shown, leads, wait_of}
 use Rattle.rss_tables.specs.declared.lines.LineState.{LineState}
 use Rattle.rss_tables.specs.declared.lines.LineState.TheVariants.{Awaiting, Answered, Inquiring, Resolving, Asleep, Dropped}
 use Rattle.rss_tables.specs.declared.phases.SnapPhase.{SnapPhase}

@@ -1,9 +1,8 @@
 -- What each move adds.
-use Rattle.std.proofs.Common.{◌≡◌, ℕ, zero, suc, ◌+◌, ◌-◌, ◌<◌, ◌≤◌, ◌⊎◌, inl, inr, Bool, true, false, List, [], ◌∷◌, ◌++◌, length, get_or, Option, Some, None, refl, ap, sym, ◌∙◌, subst, arith}
-use Rattle.std.specs.Prelude.{⊤, if◌then◌else◌}
+use Rattle.std.proofs.Common.{◌≡◌, ℕ, suc, ◌+◌, ◌-◌, ◌<◌, ◌≤◌, ◌⊎◌, inl, inr, Bool, true, false, List, [], ◌∷◌, ◌++◌, length, get_or, Option, Some, None, refl, ap, sym, ◌∙◌, subst, arith}
+use Rattle.std.specs.Prelude.{if◌then◌else◌}
 use Rattle.std.proofs.Math.ListN.{set}
 use Rattle.std.proofs.lemmas.Bool.{cond_both}
-use Rattle.truetime.specs.Reading.{Reading}
 use Rattle.rss_names.specs.declared.service.ServiceId.{ServiceId}
 use Rattle.rss_names.specs.declared.service.Target.{Target}
 use Rattle.rss_names.specs.declared.service.Target.TheVariants.{Shard, Replica}
@@ -21,7 +20,7 @@ use Rattle.rss_model.specs.declared.op.Shown.{Shown}
 use Rattle.rss_wire.specs.declared.message.Fate.{Fate}
 use Rattle.rss_wire.specs.declared.message.Message.{Message}
 use Rattle.rss_wire.specs.declared.messages.Request.{Request}
-use Rattle.rss_tables.specs.Losses.{one_more_lost, losses_of, target_place}
+use Rattle.rss_tables.specs.Losses.{target_place}
 use Rattle.rss_tables.specs.Outs.{Out}
 use Rattle.rss_tables.specs.Pipes.{Pipe, opening_pipe, pipe_put}
 use Rattle.rss_tables.specs.RegisterSession.{RegSession}
@@ -29,16 +28,15 @@ use Rattle.rss_machine.specs.Moves.{marks_message, with_owner, sends_one, sends,
 use Rattle.rss_machine.specs.Session.{Session, left_unsettled}
 use Rattle.rss_tables.specs.Works.{no_works}
 use Rattle.rss_machine.specs.State.{State, Stage, Owner, no_stage, no_owner, opening_owner, owner_at, stage_at, pipe_at}
-use Rattle.rss_machine.specs.declared.session.OwnerKind.{OwnerKind}
 use Rattle.rss_machine.specs.declared.session.OwnerKind.TheVariants as kind
 use Rattle.rss_machine.specs.declared.session.Session.TheVariants as session
 use Rattle.rss_machine.specs.declared.state.Life.TheVariants as life
 use Rattle.rss_machine.specs.declared.state.OwnerFate.{OwnerFate}
 use Rattle.rss_machine.specs.declared.state.OwnerFate.TheVariants.{Ended, CutOff}
-use Rattle.world_laws.proofs.Looks.{looks, get_or_past}
+use Rattle.world_laws.proofs.Looks.{looks}
 use Rattle.world_laws.proofs.Told.{each_grow}
 use Rattle.count_laws.proofs.FewLines.{shards_few_of}
-use Rattle.count_laws.proofs.Budget.{attempt_number, FewIn, FewKind, FewLeft, FewOwner, AllFew, Budget, none, plus, Within, within, OwnerGrew, long_same, Grew, grew_more, grew_both, chain, owner_least, still, for_owner, grew_owner, new_grew}
+use Rattle.count_laws.proofs.Budget.{attempt_number, FewIn, FewKind, FewLeft, FewOwner, AllFew, Budget, none, plus, Within, within, OwnerGrew, Grew, grew_more, grew_both, chain, owner_least, still, for_owner, grew_owner, new_grew}
 
 -- MESSAGES
 

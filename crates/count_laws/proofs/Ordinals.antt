@@ -1,11 +1,10 @@
 -- The number of a request among those of its stage to its target is no greater than that of all messages.
-use Rattle.std.proofs.Common.{◌≡◌, ℕ, suc, ◌+◌, ◌<◌, ◌≤◌, ◌⊎◌, inl, inr, List, [], ◌∷◌, ◌++◌, length, get_or, Some, None, refl, ap, sym, ◌∙◌, subst, arith}
+use Rattle.std.proofs.Common.{◌≡◌, ℕ, suc, ◌+◌, ◌<◌, ◌≤◌, ◌⊎◌, inl, inr, List, [], ◌∷◌, ◌++◌, length, get_or, Some, None, ap, sym, subst, arith}
 use Rattle.std.proofs.Math.ListN.{set}
 use Rattle.std.proofs.lemmas.Bool.{cond_both}
-use Rattle.truetime.specs.Reading.{Reading}
 use Rattle.rss_names.specs.declared.service.Target.{Target}
 use Rattle.pipeline_lang.specs.declared.config.Config.{Config}
-use Rattle.rss_wire.specs.Messages.{no_message, message_at, count_requests, is_request_to, request_envelope, reply_envelope, asks, answers, meets}
+use Rattle.rss_wire.specs.Messages.{no_message, message_at, count_requests, is_request_to, asks, answers, meets}
 use Rattle.rss_wire.specs.declared.message.Fate.{Fate}
 use Rattle.rss_wire.specs.declared.message.Message.{Message}
 use Rattle.rss_wire.specs.declared.messages.Reply.{Reply}
@@ -14,13 +13,12 @@ use Rattle.rss_machine.specs.Effect.{stepped}
 use Rattle.rss_machine.specs.Moves.{ticks}
 use Rattle.rss_machine.specs.Refusal.{refusal}
 use Rattle.rss_machine.specs.Run.{run}
-use Rattle.rss_machine.specs.State.{State, owner_at, start}
+use Rattle.rss_machine.specs.State.{State, owner_at}
 use Rattle.rss_machine.specs.declared.step.Step.{Step}
 use Rattle.world_laws.proofs.Looks.{looks}
 use Rattle.world_laws.proofs.Runs.{passes, run_keeps}
 use Rattle.world_laws.proofs.StoreMoves.{StoreKeeps}
 use Rattle.world_laws.proofs.StoreWalk.{store_walk}
-use Rattle.rss_tables.specs.Outs.{Out}
 
 abbrev pub InOrder : List Message → Type 0
 InOrder net = (m : ℕ) → (message_at net m).envelope.ordinal ≤ length net

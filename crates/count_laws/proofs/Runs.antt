@@ -1,21 +1,18 @@
 -- Sizes, in every run.
 use Rattle.std.proofs.Common.{◌≡◌, ℕ, zero, suc, ◌+◌, ◌-◌, ◌*◌, ◌≤◌, List, [], ◌∷◌, length, get_or, Some, None, refl, ap, sym, ◌∙◌, subst, arith}
-use Rattle.std.specs.Prelude.{⊤, replicate}
+use Rattle.std.specs.Prelude.{replicate}
 use Rattle.std.proofs.lemmas.List.{length-replicate}
 use Rattle.rss_names.specs.declared.service.ServiceId.{ServiceId}
 use Rattle.rss_names.specs.declared.service.ServiceId.TheVariants as service
-use Rattle.rss_names.specs.declared.service.Target.{Target}
 use Rattle.pipeline_lang.specs.Config.{replicas_of}
 use Rattle.pipeline_lang.specs.declared.config.Config.{Config}
 use Rattle.rss_tables.specs.Losses.{no_losses, target_place}
-use Rattle.rss_tables.specs.Pipes.{Pipe, opening_pipe}
-use Rattle.rss_tables.specs.TransactionSession.{TxnSession}
+use Rattle.rss_tables.specs.Pipes.{opening_pipe}
 use Rattle.rss_machine.specs.Effect.{stepped}
 use Rattle.rss_machine.specs.Moves.{ticks}
 use Rattle.rss_machine.specs.Refusal.{refusal}
 use Rattle.rss_machine.specs.Run.{run}
-use Rattle.rss_machine.specs.State.{State, Stage, Owner, start, no_stage, no_owner, owner_at, stages_from, shards_from}
-use Rattle.rss_machine.specs.declared.session.Session.TheVariants as session
+use Rattle.rss_machine.specs.State.{State, Owner, start, no_stage, no_owner, owner_at, stages_from, shards_from}
 use Rattle.rss_machine.specs.declared.step.Step.{Step}
 use Rattle.world_laws.specs.Shapes.{IsSoundFile}
 use Rattle.world_laws.specs.Sizes.{FitsSizes}

@@ -1,21 +1,18 @@
 -- What a step adds.
-use Rattle.std.proofs.Common.{◌≡◌, ℕ, zero, suc, ◌+◌, ◌-◌, ◌≤◌, Bool, true, false, List, [], ◌∷◌, length, Option, Some, None, refl, ap, sym, ◌∙◌, subst, arith}
-use Rattle.std.specs.Prelude.{⊤, nat_lt, if◌then◌else◌}
+use Rattle.std.proofs.Common.{◌≡◌, ℕ, ◌-◌, ◌≤◌, Bool, true, false, List, [], ◌∷◌, length, Option, Some, None, refl, sym, ◌∙◌, subst, arith}
+use Rattle.std.specs.Prelude.{nat_lt, if◌then◌else◌}
 use Rattle.std.proofs.Math.ListN.{set}
 use Rattle.std.proofs.lemmas.Bool.{cond_both}
 use Rattle.truetime.specs.Reading.{Reading}
 use Rattle.rss_names.specs.declared.service.Key.{Key}
-use Rattle.rss_names.specs.declared.service.ServiceId.{ServiceId}
 use Rattle.rss_names.specs.declared.service.Target.{Target}
 use Rattle.rss_names.specs.declared.service.Target.TheVariants.{Shard, Replica}
 use Rattle.rss_names.specs.declared.attempt.Attempt.{Attempt}
-use Rattle.pipeline_lang.specs.Config.{ends_of, replicas_of, script_of}
+use Rattle.pipeline_lang.specs.Config.{replicas_of}
 use Rattle.pipeline_lang.specs.declared.config.Config.{Config}
 use Rattle.pipeline_lang.specs.declared.script.Statement.{Statement}
 use Rattle.pipeline_lang.specs.declared.script.Statement.TheVariants as statement
 use Rattle.rss_model.specs.CallStatement.{op_of_statement}
-use Rattle.rss_model.specs.Cursor.{next_cursor}
-use Rattle.rss_model.specs.Formula.{formula_value}
 use Rattle.rss_model.specs.declared.history.How.TheVariants.{Killed, Unavailable}
 use Rattle.rss_model.specs.declared.history.Token.TheVariants as token
 use Rattle.rss_model.specs.declared.op.Op.{Op}
@@ -30,27 +27,25 @@ use Rattle.rss_wire.specs.declared.messages.Reply.TheVariants as reply
 use Rattle.rss_wire.specs.declared.messages.Outcome.{Outcome}
 use Rattle.rss_wire.specs.declared.messages.RegReply.{RegReply}
 use Rattle.rss_wire.specs.Messages.{message_at}
-use Rattle.rss_tables.specs.declared.endings.StubEnd.{StubEnd}
 use Rattle.rss_tables.specs.declared.endings.StubEnd.TheVariants.{Fenced, Unfenced}
 use Rattle.rss_tables.specs.Lines.{Line, line_at, tells_decision}
 use Rattle.rss_tables.specs.Losses.{losses_of, reaches_tries, is_quorum_lost}
-use Rattle.rss_tables.specs.Outs.{Out, awaited, line_out, slot_replica, slot_shard}
+use Rattle.rss_tables.specs.Outs.{line_out, slot_replica, slot_shard}
 use Rattle.rss_tables.specs.Pipes.{Chunk, EndMark, no_mark, fenced_mark, bare_mark}
-use Rattle.rss_tables.specs.RegisterSession.{RegSession, session_after, phase_end, reached, round_requests}
+use Rattle.rss_tables.specs.RegisterSession.{RegSession, session_after, phase_end, reached}
 use Rattle.rss_tables.specs.Round.{Round, was_heard, hears, is_reached}
 use Rattle.rss_tables.specs.RegisterSession.{reply_cell}
-use Rattle.rss_tables.specs.SnapshotSession.{SnapSession, snap_hears, snap_wakes}
-use Rattle.rss_tables.specs.TransactionSession.{TxnSession, txn_hears, txn_wakes, txn_passes, waiting_time}
+use Rattle.rss_tables.specs.SnapshotSession.{SnapSession, snap_wakes}
+use Rattle.rss_tables.specs.TransactionSession.{TxnSession, txn_wakes, txn_passes, waiting_time}
 use Rattle.rss_tables.specs.declared.register_session.RegEnd.{RegEnd}
 use Rattle.rss_tables.specs.declared.register_session.RegPhase.{RegPhase}
 use Rattle.rss_tables.specs.declared.register_session.RegPhase.TheVariants as phase
-use Rattle.rss_machine.specs.Calls.{goes_on_with_works, ends_work, fix_ends, register_ends, txn_turns, snap_turns}
-use Rattle.rss_machine.specs.Effect.{begins_call, takes_end, takes, waits_over, makes, waking_line, txn_line_wakes, snap_line_wakes, txn_acts, session_acts, owner_acts, acts, request_comes, fix_goes_on, opens_round, register_goes_on, stub_settles, owner_hears, reply_comes, comes, target_lost, is_cut_off, asks_again, replaces, loss_counts, loses, least_shard, settles, stub_starts, stub_acts, stub_of_stage, effect, after_take, with_status}
+use Rattle.rss_machine.specs.Effect.{begins_call, takes_end, takes, waits_over, makes, waking_line, txn_line_wakes, snap_line_wakes, txn_acts, session_acts, owner_acts, acts, request_comes, fix_goes_on, opens_round, register_goes_on, stub_settles, owner_hears, reply_comes, comes, target_lost, is_cut_off, asks_again, replaces, loss_counts, loses, least_shard, settles, stub_starts, stub_acts, stub_of_stage, effect, with_status}
 use Rattle.rss_machine.specs.Enabling.{next_statement}
-use Rattle.rss_machine.specs.Moves.{marks_message, sends, opens_call, opens_fence, starts_stub, plans_stub, turns_session, goes_on, listens, forgets, counts_loss, cuts_off, counts_act, takes_chunk, closes, moves_on, dies, loses_stub, exits}
+use Rattle.rss_machine.specs.Moves.{marks_message, sends, opens_call, opens_fence, starts_stub, plans_stub, turns_session, listens, forgets, counts_loss, cuts_off, counts_act, takes_chunk, closes}
 use Rattle.rss_machine.specs.Session.{Session}
 use Rattle.rss_machine.specs.Slots.{slot_in}
-use Rattle.rss_machine.specs.Standing.{is_running, stage_state, is_settled, exit_context}
+use Rattle.rss_machine.specs.Standing.{is_running, stage_state, exit_context}
 use Rattle.rss_machine.specs.State.{State, stage_at, owner_at, pipe_at}
 use Rattle.rss_machine.specs.declared.ending.StageState.{StageState}
 use Rattle.rss_machine.specs.declared.ending.StageState.TheVariants as standing
@@ -61,7 +56,7 @@ use Rattle.rss_machine.specs.declared.state.OwnerFate.TheVariants.{Dropped, CutO
 use Rattle.rss_machine.specs.declared.step.StepKind.{StepKind}
 use Rattle.rss_machine.specs.declared.step.StepKind.TheVariants.{Act, Go, Lose, Again, Kill, Stub}
 use Rattle.world_laws.proofs.Looks.{looks}
-use Rattle.count_laws.proofs.Budget.{attempt_number, FewIn, FewKind, AllFew, Budget, none, plus, Within, within, Grew, grew_more, grew_both, chain, still, for_owner}
+use Rattle.count_laws.proofs.Budget.{FewIn, FewKind, AllFew, Budget, none, plus, Within, within, Grew, grew_more, chain, still, for_owner}
 use Rattle.count_laws.proofs.FewLines.{few_hears, few_wakes, few_passes, snap_few_hears, snap_few_wakes, told_few}
 use Rattle.count_laws.proofs.Moves.{sent, going, entered, given, begun, one_act, exited, g_marks, g_sends_upto, g_serves_shard, g_serves_replica, g_goes_on, g_opens_call, g_opens_fence, g_plans_stub, g_listens, g_forgets, g_starts_stub, g_counts_loss, g_cuts_off, g_counts_act, g_moves_on, g_spawns, g_receives, g_takes_chunk, g_puts, g_closes, g_exits, g_dies, g_loses_stub, g_turns, g_sends_one}
 use Rattle.count_laws.proofs.Works.{FewOf, worked, turned, g_goes_through, g_ends_work, g_fix_ends, g_register_ends, g_txn_turns, g_snap_turns, round_few}

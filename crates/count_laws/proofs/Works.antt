@@ -1,13 +1,11 @@
 -- What works, sessions and turns add.
-use Rattle.std.proofs.Common.{◌≡◌, ℕ, zero, suc, ◌+◌, ◌-◌, ◌≤◌, Bool, true, false, List, [], ◌∷◌, length, map, Option, Some, None, refl, ap, sym, ◌∙◌, subst, arith}
-use Rattle.std.specs.Prelude.{⊤, get_or, nat_lt, if◌then◌else◌}
+use Rattle.std.proofs.Common.{◌≡◌, ℕ, zero, suc, ◌+◌, ◌-◌, ◌≤◌, Bool, true, false, List, [], ◌∷◌, length, Option, Some, None, refl, ap, subst, arith}
+use Rattle.std.specs.Prelude.{get_or, nat_lt}
 use Rattle.std.proofs.lemmas.Bool.{cond_both}
 use Rattle.std.proofs.lemmas.List.{length-map}
 use Rattle.truetime.specs.Reading.{Reading}
-use Rattle.rss_names.specs.declared.service.Key.{Key}
 use Rattle.rss_names.specs.declared.service.ServiceId.{ServiceId}
 use Rattle.rss_names.specs.declared.service.Target.{Target}
-use Rattle.rss_names.specs.declared.attempt.Attempt.{Attempt}
 use Rattle.causal_context.specs.declared.dep.Dep.{Dep}
 use Rattle.causal_context.specs.Deps.{deps_of}
 use Rattle.causal_context.specs.Seen.{Seen}
@@ -17,11 +15,11 @@ use Rattle.rss_model.specs.declared.op.Op.{Op}
 use Rattle.rss_model.specs.declared.op.Op.TheVariants as op
 use Rattle.rss_model.specs.declared.op.Shown.{Shown}
 use Rattle.rss_wire.specs.declared.messages.Request.{Request}
-use Rattle.rss_tables.specs.Outs.{Out, awaited, target_slot, line_out}
+use Rattle.rss_tables.specs.Outs.{awaited, target_slot, line_out}
 use Rattle.rss_tables.specs.RegisterSession.{RegSession, round_requests, requests_from, phase_request}
-use Rattle.rss_tables.specs.SnapshotSession.{SnapSession, snap_end, snap_asks, snap_request, opening_snapshot, snap_starts}
-use Rattle.rss_tables.specs.TransactionSession.{TxnSession, txn_end, asks_lines, txn_request, opening_txn, txn_starts, shown_reply, written_keys}
-use Rattle.rss_tables.specs.Lines.{Line, lines_of}
+use Rattle.rss_tables.specs.SnapshotSession.{SnapSession, snap_end, snap_asks, snap_request, opening_snapshot}
+use Rattle.rss_tables.specs.TransactionSession.{TxnSession, txn_end, asks_lines, txn_request, opening_txn, shown_reply, written_keys}
+use Rattle.rss_tables.specs.Lines.{Line}
 use Rattle.rss_tables.specs.Turns.{Turn}
 use Rattle.rss_tables.specs.declared.fences.FenceWork.{FenceWork}
 use Rattle.rss_tables.specs.declared.fences.FenceWork.TheVariants.{Nothing, Past, Fix}
@@ -29,15 +27,15 @@ use Rattle.rss_tables.specs.declared.register_session.RegEnd.{RegEnd}
 use Rattle.rss_tables.specs.declared.register_session.RegEnd.TheVariants as ends
 use Rattle.rss_tables.specs.declared.register_session.RegWork.{RegWork}
 use Rattle.rss_tables.specs.declared.register_session.RegWork.TheVariants as work
-use Rattle.rss_machine.specs.Calls.{session_for, fixes, least_for, launches_register, launches_call, starts_at_register, starts_call, entered_first, works_over, goes_through, goes_on_with_works, ends_work, launches_cleared, fix_ends, replies, register_ends, ends_at, forgets_if, txn_turns, snap_turns}
-use Rattle.rss_machine.specs.Moves.{enters, fence_ends, waits_for, clears, goes_on, forgets, ends_call, ends_fence, ends_stub}
-use Rattle.rss_machine.specs.Session.{Session, service_of}
+use Rattle.rss_machine.specs.Calls.{session_for, fixes, least_for, launches_register, launches_call, starts_at_register, starts_call, entered_first, works_over, goes_through, ends_work, launches_cleared, fix_ends, replies, register_ends, ends_at, forgets_if, txn_turns, snap_turns}
+use Rattle.rss_machine.specs.Moves.{enters, fence_ends, waits_for, clears, goes_on}
+use Rattle.rss_machine.specs.Session.{service_of}
 use Rattle.rss_machine.specs.State.{State, owner_at}
 use Rattle.rss_machine.specs.declared.session.OwnerKind.{OwnerKind}
 use Rattle.rss_machine.specs.declared.session.OwnerKind.TheVariants as kind
 use Rattle.rss_machine.specs.declared.session.Session.TheVariants as session
 use Rattle.world_laws.proofs.Looks.{looks}
-use Rattle.count_laws.proofs.Budget.{attempt_number, FewIn, Budget, none, plus, Within, within, Grew, grew_more, grew_both, chain, still}
+use Rattle.count_laws.proofs.Budget.{attempt_number, FewIn, Budget, none, plus, within, Grew, grew_more, chain, still}
 use Rattle.count_laws.proofs.FewLines.{FewTurn, FewSnap, opening_few}
 use Rattle.count_laws.proofs.Moves.{going, entered, exit_given, g_goes_on, g_launches, g_enters, g_fence_ends, g_waits_for, g_clears, g_forgets, g_ends_call, g_ends_fence, g_ends_stub}
 

@@ -1,19 +1,16 @@
 -- Stamps in requests, rounds and replicas, against two bounds: what is told, heard and held is up to the one, what is stored
 -- up to the other.
-use Rattle.std.proofs.Common.{◌≡◌, ℕ, zero, suc, ◌+◌, ◌-◌, ◌<◌, ◌≤◌, ◌⊎◌, inl, inr, Bool, true, false, List, [], ◌∷◌, length, get_or, Option, Some, None, refl, ap, sym, ◌∙◌, subst, arith}
-use Rattle.std.specs.List.{All}
-use Rattle.std.specs.Prelude.{⊤, nat_lt, replicate, if◌then◌else◌}
+use Rattle.std.proofs.Common.{◌≡◌, ℕ, suc, ◌-◌, ◌≤◌, ◌⊎◌, inl, inr, Bool, true, false, List, [], ◌∷◌, get_or, Option, Some, None, sym, subst, arith}
+use Rattle.std.specs.Prelude.{⊤, replicate, if◌then◌else◌}
 use Rattle.std.proofs.Math.ListN.{set}
 use Rattle.std.proofs.lemmas.Bool.{cond_both}
 use Rattle.std.proofs.lemmas.List.Elements.{All-nil, All-cons, All-head, All-tail}
 use Rattle.rss_names.specs.declared.service.Key.{Key}
-use Rattle.rss_names.specs.declared.service.ServiceId.{ServiceId}
 use Rattle.rss_names.specs.declared.service.Target.{Target}
 use Rattle.rss_names.specs.declared.service.Target.TheVariants.{Shard, Replica}
 use Rattle.rss_names.specs.Services.{same_service}
 use Rattle.carstamps.specs.Stamp.{stamp_lt}
 use Rattle.causal_context.specs.declared.dep.Dep.{Dep}
-use Rattle.causal_context.specs.Deps.{given_dep}
 use Rattle.rss_wire.specs.declared.messages.RegReply.{RegReply}
 use Rattle.rss_wire.specs.declared.messages.Reply.{Reply}
 use Rattle.rss_wire.specs.declared.messages.Reply.TheVariants as reply
@@ -35,7 +32,7 @@ use Rattle.rss_tables.specs.declared.register_session.RegPhase.{RegPhase}
 use Rattle.rss_tables.specs.declared.register_session.RegPhase.TheVariants as phase
 use Rattle.rss_tables.specs.declared.register_session.RegWork.{RegWork}
 use Rattle.rss_tables.specs.declared.register_session.RegWork.TheVariants as work
-use Rattle.rss_machine.specs.Moves.{round_without, session_without}
+use Rattle.rss_machine.specs.Moves.{session_without}
 use Rattle.rss_machine.specs.Session.{Session}
 use Rattle.rss_machine.specs.declared.session.Session.TheVariants as session
 use Rattle.world_laws.specs.Stamps.{DepUpTo, DepsUpTo, RequestStampsUpTo, ReplyStampsUpTo, WorkStampsUpTo, GivenUpTo}

@@ -1,13 +1,11 @@
 -- No stamp has a number above that of the steps, in every run.
-use Rattle.std.proofs.Common.{◌≡◌, ◌⊎◌, inl, inr, ℕ, zero, suc, ◌+◌, ◌-◌, ◌<◌, ◌≤◌, Bool, true, false, List, [], ◌∷◌, ◌++◌, length, get_or, Option, Some, None, refl, ap, sym, ◌∙◌, subst, arith}
+use Rattle.std.proofs.Common.{◌≡◌, ◌⊎◌, inl, inr, ℕ, zero, suc, ◌+◌, ◌-◌, ◌≤◌, true, false, List, [], ◌∷◌, ◌++◌, length, get_or, Option, Some, None, refl, ap, sym, subst, arith}
 use Rattle.std.specs.List.{All}
 use Rattle.std.specs.Prelude.{⊤, replicate}
 use Rattle.std.proofs.Math.ListN.{set}
 use Rattle.std.proofs.lemmas.Bool.{false≢true}
 use Rattle.std.proofs.lemmas.List.Elements.{All-nil, All-cons, All-head, All-tail}
 use Rattle.truetime.specs.Reading.{Reading}
-use Rattle.rss_names.specs.declared.attempt.Attempt.{Attempt}
-use Rattle.rss_names.specs.declared.service.Key.{Key}
 use Rattle.rss_names.specs.declared.service.ServiceId.{ServiceId}
 use Rattle.rss_names.specs.declared.service.ServiceId.TheVariants as service
 use Rattle.rss_names.specs.declared.service.Target.{Target}
@@ -17,7 +15,6 @@ use Rattle.causal_context.specs.Deps.{deps_of, given_dep}
 use Rattle.pipeline_lang.specs.declared.config.Config.{Config}
 use Rattle.pipeline_lang.specs.declared.config.ServiceDef.{ServiceDef}
 use Rattle.rss_wire.specs.Messages.{no_message, message_at}
-use Rattle.rss_wire.specs.declared.envelope.Envelope.{Envelope}
 use Rattle.rss_wire.specs.declared.message.Body.{Body}
 use Rattle.rss_wire.specs.declared.message.Body.TheVariants as body
 use Rattle.rss_wire.specs.declared.message.Fate.{Fate}
@@ -30,8 +27,8 @@ use Rattle.rss_wire.specs.declared.messages.Request.{Request}
 use Rattle.rss_wire.specs.declared.messages.Request.TheVariants as request
 use Rattle.rss_tables.specs.Lines.{tells_decision}
 use Rattle.rss_tables.specs.Outs.{Out, slot_replica}
-use Rattle.rss_tables.specs.RegisterSession.{RegSession, session_after, opening_session}
-use Rattle.rss_tables.specs.ReplicaRow.{opening_cell, held_at, replica_after, replica_reply}
+use Rattle.rss_tables.specs.RegisterSession.{RegSession}
+use Rattle.rss_tables.specs.ReplicaRow.{opening_cell, replica_after}
 use Rattle.rss_tables.specs.declared.register_session.RegEnd.{RegEnd}
 use Rattle.rss_tables.specs.declared.register_session.RegEnd.TheVariants as ends
 use Rattle.rss_tables.specs.declared.register_session.RegPhase.{RegPhase}
@@ -39,28 +36,27 @@ use Rattle.rss_tables.specs.declared.register_session.RegPhase.TheVariants as ph
 use Rattle.rss_tables.specs.declared.register_session.RegWork.{RegWork}
 use Rattle.rss_tables.specs.declared.register_session.RegWork.TheVariants as work
 use Rattle.rss_machine.specs.Calls.{session_for}
-use Rattle.rss_machine.specs.Effect.{stepped, effect, request_comes}
+use Rattle.rss_machine.specs.Effect.{stepped, request_comes}
 use Rattle.rss_machine.specs.Moves.{ticks, marks_message, sends_one, sends, plans_stub, listens, serves_shard, serves_replica, notes_served}
 use Rattle.rss_machine.specs.Refusal.{refusal}
 use Rattle.rss_machine.specs.Run.{run}
 use Rattle.rss_machine.specs.Session.{Session}
-use Rattle.rss_machine.specs.State.{State, Owner, start, no_owner, owner_at, shard_at, cells_at, replicas_at, service_index, opening_replicas, replicas_before, replicas_of_services}
+use Rattle.rss_machine.specs.State.{State, Owner, start, no_owner, owner_at, shard_at, cells_at, service_index, opening_replicas, replicas_before, replicas_of_services}
 use Rattle.rss_machine.specs.declared.session.Session.TheVariants as session
 use Rattle.rss_machine.specs.declared.step.Step.{Step}
 use Rattle.world_laws.specs.Contexts.{AllDeps}
-use Rattle.world_laws.specs.Stamps.{DepUpTo, DepsUpTo, RequestStampsUpTo, ReplyStampsUpTo, BodyStampsUpTo, WorkStampsUpTo, GivenUpTo, EndStampsUpTo, PhaseStampsUpTo, RoundsUpTo, SessionStampsUpTo, StampsUpTo}
+use Rattle.world_laws.specs.Stamps.{DepUpTo, DepsUpTo, RequestStampsUpTo, ReplyStampsUpTo, BodyStampsUpTo, WorkStampsUpTo, GivenUpTo, EndStampsUpTo, PhaseStampsUpTo, SessionStampsUpTo, StampsUpTo}
 use Rattle.world_laws.proofs.Clock.{clock_step}
 use Rattle.world_laws.proofs.Contexts.{copy_holds, of_hold, set_copies, deps_weaker, deps_start}
-use Rattle.world_laws.proofs.Doings.{Changed, Heard, Beginning, calls, fences, Resting, plans, past, fixed, cleared, Working, owes_nothing, is_past, enters_own, Leaving, waits, fixes_work, fixes_own, asks_register, stamps_register, begins_snapshot, begins_txn, fence_done, stub_done, Doing, listens_one, fix_hears, fix_reached, register_hears, register_stores, register_reached, read_ends, write_ends, txn_ends, snap_ends, counts_one, cuts_one, is_closed, forgets_all, turns, stub_asks, listened, ShardTurning, txn_heard, txn_woken, txn_passed, snap_heard, snap_woken}
+use Rattle.world_laws.proofs.Doings.{Changed, Heard, Beginning, calls, fences, Resting, plans, past, fixed, cleared, Working, owes_nothing, is_past, enters_own, Leaving, waits, fixes_work, fixes_own, asks_register, stamps_register, begins_snapshot, begins_txn, fence_done, stub_done, Doing, listens_one, fix_hears, fix_reached, register_hears, register_stores, register_reached, read_ends, write_ends, txn_ends, snap_ends, counts_one, cuts_one, is_closed, forgets_all, turns, stub_asks, ShardTurning, txn_heard, txn_woken, txn_passed, snap_heard, snap_woken}
 use Rattle.world_laws.proofs.Looks.{looks, get_or_repeat}
 use Rattle.world_laws.proofs.OwnerMoves.{OwnerMoves}
 use Rattle.world_laws.proofs.OwnerWalk.{Served, moves_or_serves}
 use Rattle.world_laws.proofs.Replies.{Sound, sound_keeps, sound_start}
 use Rattle.world_laws.proofs.Runs.{passes, run_keeps}
 use Rattle.world_laws.proofs.Sent.{to_shard, SessionOut, RoundOut, IsTold, decision_outs, leaving_outs, doing_outs, sends_each}
-use Rattle.world_laws.proofs.SessionMoves.{session_at, IsAgain}
+use Rattle.world_laws.proofs.SessionMoves.{IsAgain}
 use Rattle.world_laws.proofs.Stacked.{sent_before}
-use Rattle.world_laws.proofs.StoreMoves.{SameStores}
 use Rattle.world_laws.proofs.StoreWalk.{store_owner, store_walk}
 use Rattle.world_laws.proofs.Told.{each_set, each_grow}
 use Rattle.stamp_laws.proofs.Rounds.{HeldUpTo, shard_tells, after_held, reply_held, EndUpTo, PhaseUpTo, Rounds, SessionUpTo, none_heard, after_up, without_up, phase_asks}
@@ -264,11 +260,8 @@ stamped_moves c at b = record {
   dies = λ s t n u k h. (sound.dies s t n u k h.0, changed b (suc b) [] s t _ k (All-nil (DepUpTo b)) (each_grow (λ i v. SessionUpTo b (suc b) v.session) s.owners _ tt h.1.sessions) h.1);
   begins = λ s t w y k h. (sound.begins s t w y k h.0, changed b (suc b) [] s t (s.owners ++ w ∷ []) k (All-nil (DepUpTo b)) (each_grow (λ i v. SessionUpTo b (suc b) v.session) s.owners w (beginning b (suc b) c s w y) h.1.sessions) h.1);
   rests = λ s t o w i y k h. (sound.rests s t o w i y k h.0, changed_one b (suc b) [] s t o w k (All-nil (DepUpTo b)) (resting b (suc b) s o w y) h.1);
-  settles = λ s o slot a shards outcome i e k h. (
-    sound.settles s o slot a shards outcome i e k h.0,
-    plans_stamped b (suc b) (sends (listens s o slot) o (tells_decision a outcome shards)) o
-        (sends_each (Stamped b (suc b)) IsTold o (λ t out q p. sends_one_stamped b (suc b) o t out (told_shard (suc b) out q) p) (tells_decision a outcome shards) (listens s o slot) (decision_outs a outcome shards) (listens_stamped b (suc b) s o slot h.1)),
-  );
+  settles = λ s o slot a shards outcome i e k h. (sound.settles s o slot a shards outcome i e k h.0, plans_stamped b (suc b) (sends (listens s o slot) o (tells_decision a outcome shards)) o
+      (sends_each (Stamped b (suc b)) IsTold o (λ t out q p. sends_one_stamped b (suc b) o t out (told_shard (suc b) out q) p) (tells_decision a outcome shards) (listens s o slot) (decision_outs a outcome shards) (listens_stamped b (suc b) s o slot h.1)));
   settled = λ s o h. h;
   works = λ s t o w i y k h. (sound.works s t o w i y k h.0, changed_one b (suc b) [] s t o w k (All-nil (DepUpTo b)) (working b (suc b) at s o w y (h.1.sessions o)) h.1);
   leaves = λ s t o w outs i y k h.
