@@ -1,5 +1,5 @@
 -- What messages, links and operations are, in every run.
-use Rattle.std.proofs.Common.{◌≡◌, ℕ, ◌<◌, ◌≤◌, Bool, true, false, List, [], zero, suc, length, get_or, Option, Some, None, refl, ap, sym, ◌∙◌, subst, arith}
+use Rattle.std.proofs.Common.{◌≡◌, ℕ, ◌<◌, ◌≤◌, Bool, true, false, List, [], zero, suc, length, get_or, Option, Some, None, refl, ap, sym, ◌∙◌, arith}
 use Rattle.std.specs.Prelude.{nat_lt, is_some, if◌then◌else◌, ◌&&◌}
 use Rattle.std.proofs.lemmas.Bool.{true≢false, ltb-true, and_parts}
 use Rattle.pipeline_lang.specs.declared.config.Config.{Config}
@@ -7,24 +7,22 @@ use Rattle.rss_model.specs.declared.op.Op.{Op}
 use Rattle.rss_wire.specs.Messages.{message_at, request_at, body_request, is_sent}
 use Rattle.rss_wire.specs.declared.message.Body.{Body}
 use Rattle.rss_wire.specs.declared.message.Body.TheVariants as body
-use Rattle.rss_wire.specs.declared.message.Message.{Message}
 use Rattle.rss_machine.specs.Run.{run}
 use Rattle.rss_machine.specs.Standing.{is_running}
-use Rattle.rss_machine.specs.State.{State, start, owner_at, stage_at, no_currents}
+use Rattle.rss_machine.specs.State.{State, start, owner_at, no_currents}
 use Rattle.rss_machine.specs.declared.session.OwnerKind.TheVariants as kind
 use Rattle.rss_machine.specs.declared.state.OwnerFate.TheVariants.{Ended}
 use Rattle.rss_machine.specs.declared.step.Step.{Step}
 use Rattle.world_laws.specs.Exchanges.{Exchanges, IsSound, is_request}
 use Rattle.world_laws.specs.Shapes.{IsSoundFile}
-use Rattle.world_laws.specs.Traffic.{MessagesFit, LinksFit, IsCurrentOf, OperationFits}
-use Rattle.world_laws.proofs.Looks.{none_is_not, get_or_repeat}
-use Rattle.world_laws.proofs.OwnerFits.{Fits}
+use Rattle.world_laws.specs.Traffic.{MessagesFit, LinksFit, OperationFits}
+use Rattle.world_laws.proofs.Looks.{get_or_repeat}
 use Rattle.world_laws.proofs.Replies.{exchanges_run}
 use Rattle.world_laws.proofs.Runs.{run_is, run_ends}
 use Rattle.world_laws.proofs.Scripts.{scripted_run, go_on_run}
 use Rattle.world_laws.proofs.Sound.{operation_fits}
 use Rattle.world_laws.proofs.ToldLaws.{told_run}
-use Rattle.ready_laws.proofs.Traffic.{Traffic, traffic_run}
+use Rattle.ready_laws.proofs.Traffic.{traffic_run}
 
 -- a message that was sent has a number from 1, below the count of all
 pub record WasSent (s : State) (m : ℕ) : Type 0 where

@@ -1,6 +1,6 @@
 -- Stubs are of their stages, which are over; a round of dependencies stores them; and what is depended on are registers of
 -- the file.
-use Rattle.std.proofs.Common.{◌≡◌, ℕ, zero, suc, ◌-◌, true, false, List, [], ◌∷◌, ◌++◌, get_or, Some, None, refl, ap, sym, ◌∙◌, subst, arith}
+use Rattle.std.proofs.Common.{◌≡◌, ℕ, zero, suc, ◌-◌, true, false, List, [], ◌∷◌, ◌++◌, get_or, Some, refl, ap, sym, ◌∙◌, subst, arith}
 use Rattle.std.specs.Prelude.{⊤}
 use Rattle.std.proofs.Math.ListN.{set}
 use Rattle.std.proofs.lemmas.Bool.{true≢false, cond_both}
@@ -8,8 +8,7 @@ use Rattle.truetime.specs.Reading.{Reading}
 use Rattle.rss_names.specs.Services.{same_service}
 use Rattle.rss_names.specs.declared.attempt.Attempt.{Attempt}
 use Rattle.rss_names.specs.declared.service.ServiceId.{ServiceId}
-use Rattle.rss_names.specs.declared.service.Target.{Target}
-use Rattle.rss_names.specs.declared.service.Target.TheVariants.{Shard, Replica}
+use Rattle.rss_names.specs.declared.service.Target.TheVariants.{Replica}
 use Rattle.causal_context.specs.declared.dep.Dep.{Dep}
 use Rattle.pipeline_lang.specs.declared.config.Config.{Config}
 use Rattle.rss_model.specs.Stages.{is_death}
@@ -36,11 +35,10 @@ use Rattle.world_laws.specs.Numbered.{are_numbered}
 use Rattle.world_laws.specs.Registers.{IsRegister}
 use Rattle.world_laws.specs.Shapes.{IsSoundFile}
 use Rattle.world_laws.specs.Traffic.{StubsFit, stores_deps}
-use Rattle.world_laws.proofs.Doings.{Changed, Beginning, calls, fences, Resting, plans, past, fixed, cleared, Working, owes_nothing, is_past, enters_own, Leaving, waits, fixes_work, fixes_own, asks_register, stamps_register, begins_snapshot, begins_txn, fence_done, stub_done, Doing, listens_one, fix_hears, fix_reached, register_hears, register_stores, register_reached, read_ends, write_ends, txn_ends, snap_ends, counts_one, cuts_one, is_closed, forgets_all, turns, stub_asks, listened, ShardTurning, txn_heard, txn_woken, txn_passed, snap_heard, snap_woken}
+use Rattle.world_laws.proofs.Doings.{Beginning, calls, fences, Resting, plans, past, fixed, cleared, Working, owes_nothing, is_past, enters_own, Leaving, waits, fixes_work, fixes_own, asks_register, stamps_register, begins_snapshot, begins_txn, fence_done, stub_done, Doing, listens_one, fix_hears, fix_reached, register_hears, register_stores, register_reached, read_ends, write_ends, txn_ends, snap_ends, counts_one, cuts_one, is_closed, forgets_all, turns, stub_asks, listened, ShardTurning, txn_heard, txn_woken, txn_passed, snap_heard, snap_woken}
 use Rattle.world_laws.proofs.NamedRuns.{named_run}
 use Rattle.world_laws.proofs.OwnerMoves.{OwnerKeeps}
-use Rattle.world_laws.proofs.SessionMoves.{session_at}
-use Rattle.world_laws.proofs.StackRuns.{IsKept, kept_run}
+use Rattle.world_laws.proofs.StackRuns.{kept_run}
 use Rattle.world_laws.proofs.Told.{each_set, each_grow}
 use Rattle.token_laws.specs.Tied.{Stubs, life_end}
 use Rattle.token_laws.proofs.ScriptRuns.{tied_run}

@@ -1,17 +1,17 @@
 -- Who messages are of, and what is current of an owner.
-use Rattle.std.proofs.Common.{◌≡◌, ℕ, zero, suc, ◌+◌, ◌-◌, ◌<◌, ◌≤◌, ◌⊎◌, inl, inr, Bool, true, false, List, [], ◌∷◌, ◌++◌, length, get_or, map, Option, Some, None, refl, ap, sym, ◌∙◌, subst, arith}
-use Rattle.std.specs.Prelude.{⊤, replicate, if◌then◌else◌}
+use Rattle.std.proofs.Common.{◌≡◌, ℕ, zero, suc, ◌+◌, ◌-◌, ◌<◌, ◌≤◌, ◌⊎◌, inl, inr, Bool, true, false, List, [], ◌∷◌, ◌++◌, length, get_or, Option, Some, None, refl, ap, sym, ◌∙◌, subst, arith}
+use Rattle.std.specs.Prelude.{if◌then◌else◌}
 use Rattle.std.proofs.Math.ListN.{set}
 use Rattle.std.proofs.lemmas.Bool.{true≢false, cases_lt}
 use Rattle.truetime.specs.Reading.{Reading}
 use Rattle.rss_names.specs.declared.attempt.Attempt.{Attempt}
 use Rattle.rss_names.specs.declared.service.ServiceId.{ServiceId}
 use Rattle.rss_names.specs.declared.service.Target.{Target}
-use Rattle.rss_names.specs.declared.service.Target.TheVariants.{Shard, Replica}
+use Rattle.rss_names.specs.declared.service.Target.TheVariants.{Replica}
 use Rattle.causal_context.specs.declared.dep.Dep.{Dep}
 use Rattle.pipeline_lang.specs.declared.config.Config.{Config}
 use Rattle.rss_model.specs.declared.op.Op.{Op}
-use Rattle.rss_wire.specs.Messages.{no_message, message_at, same_target, is_sent}
+use Rattle.rss_wire.specs.Messages.{no_message, message_at, same_target}
 use Rattle.rss_wire.specs.declared.envelope.Envelope.{Envelope}
 use Rattle.rss_wire.specs.declared.message.Fate.{Fate}
 use Rattle.rss_wire.specs.declared.message.Message.{Message}
@@ -23,18 +23,17 @@ use Rattle.rss_tables.specs.declared.fences.FenceWork.{FenceWork}
 use Rattle.rss_machine.specs.Moves.{ticks, session_without, marks_message, sends_one, sends, plans_stub, listens, serves_shard, serves_replica, notes_served}
 use Rattle.rss_machine.specs.Run.{run}
 use Rattle.rss_machine.specs.Session.{Session}
-use Rattle.rss_machine.specs.Slots.{with_current, unless_with, without_target}
+use Rattle.rss_machine.specs.Slots.{with_current, without_target}
 use Rattle.rss_machine.specs.State.{State, Owner, start, no_owner, no_currents, owner_at}
-use Rattle.rss_machine.specs.declared.session.OwnerKind.{OwnerKind}
 use Rattle.rss_machine.specs.declared.session.OwnerKind.TheVariants as kind
 use Rattle.rss_machine.specs.declared.session.Session.TheVariants as session
 use Rattle.rss_machine.specs.declared.step.Step.{Step}
 use Rattle.world_laws.proofs.Doings.{Changed, Beginning, calls, fences, Resting, plans, past, fixed, cleared, Working, owes_nothing, is_past, enters_own, Leaving, waits, fixes_work, fixes_own, asks_register, stamps_register, begins_snapshot, begins_txn, fence_done, stub_done, Doing, listens_one, fix_hears, fix_reached, register_hears, register_stores, register_reached, read_ends, write_ends, txn_ends, snap_ends, counts_one, cuts_one, is_closed, forgets_all, turns, stub_asks, listened, ShardTurning, txn_heard, txn_woken, txn_passed, snap_heard, snap_woken}
 use Rattle.world_laws.proofs.Looks.{looks, get_or_past, get_or_repeat, none_is_not, some_is}
-use Rattle.world_laws.proofs.OwnerMoves.{OwnerKeeps, sends_long}
+use Rattle.world_laws.proofs.OwnerMoves.{OwnerKeeps}
 use Rattle.world_laws.proofs.SessionMoves.{session_at, IsAgain}
-use Rattle.world_laws.proofs.StackRuns.{IsKept, kept_run}
-use Rattle.world_laws.proofs.StoreMoves.{SameStores, Serves}
+use Rattle.world_laws.proofs.StackRuns.{kept_run}
+use Rattle.world_laws.proofs.StoreMoves.{SameStores}
 use Rattle.world_laws.proofs.Told.{each_set, each_grow}
 
 -- the owner of number 0 does nothing
