@@ -103,7 +103,7 @@ scripts_of_run : (c : Config) (h : Option State) (s : State) → h ≡ Some s �
 scripts_of_run c h s e o = subst (λ (h : Option State). (stage : ℕ) → ScriptRun c (history_in h) stage) (sym e) o
 
 -- what every reported run owes, of a file that is read and that runs
-pub keeps_promise : (c : Config) (steps : List Step) (s : State) → IsSoundFile c → is_built c ≡ true → IsRun c steps s → are_numbered steps ≡ true → are_built steps ≡ true → KeepsPromise c steps
+abbrev pub keeps_promise : (c : Config) (steps : List Step) (s : State) → IsSoundFile c → is_built c ≡ true → IsRun c steps s → are_numbered steps ≡ true → are_built steps ≡ true → KeepsPromise c steps
 keeps_promise c steps s f built r numbered kinds = record {
   state = s;
   runs = r.runs;
