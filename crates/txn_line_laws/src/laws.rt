@@ -3,7 +3,7 @@
 //! its keys, where each reading begins no later than it ends: with guards, several services, losses, repeats,
 //! kills and stubs.
 
-ghost use Rattle.txn_line_laws.specs.Laws.{TxnsAreLegal, TxnsArePlaced, TxnsAreInside, TxnsFollowEntry, CoveredTxnsStandBefore, TxnReadsAreFresh};
+ghost use Rattle.txn_line_laws.specs.Laws.{TxnsAreLegal, TxnsArePlaced, TxnsAreInside, TxnsFollowEntry, CoveredTxnsStandBefore, TxnReadsAreFresh, KeptCommitsStay};
 
 /// In every run each placed call of a transaction service was shown, of each key that it reads, what the
 /// last transaction before it in the order of places wrote, or the opening value where no transaction
@@ -47,4 +47,10 @@ pub fn covered_transactions_stand_before()
 /// writer only if that one cannot end before the read time (Helt et al., SOSP 2021, section 5).
 pub fn reads_of_transactions_are_fresh()
     ensures { TxnReadsAreFresh }
+{}
+
+/// From one state of a run to every later one: a commit that a coordinator keeps is kept, and makes its
+/// attempt the present one of its transaction for ever, which asked for that commit or knows of it.
+pub fn kept_commits_stay()
+    ensures { KeptCommitsStay }
 {}
