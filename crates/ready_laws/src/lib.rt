@@ -3,4 +3,7 @@
 
 mod laws;
 
-pub use laws::{dependencies_are_on_registers, links_are_sound, messages_are_owned, operations_fit_files, stubs_are_of_stages};
+pub use laws::{
+    dependencies_are_on_registers, links_are_sound, messages_are_owned, operations_fit_files,
+    stubs_are_of_stages,
+};

@@ -260,8 +260,11 @@ stamped_moves c at b = record {
   dies = λ s t n u k h. (sound.dies s t n u k h.0, changed b (suc b) [] s t _ k (All-nil (DepUpTo b)) (each_grow (λ i v. SessionUpTo b (suc b) v.session) s.owners _ tt h.1.sessions) h.1);
   begins = λ s t w y k h. (sound.begins s t w y k h.0, changed b (suc b) [] s t (s.owners ++ w ∷ []) k (All-nil (DepUpTo b)) (each_grow (λ i v. SessionUpTo b (suc b) v.session) s.owners w (beginning b (suc b) c s w y) h.1.sessions) h.1);
   rests = λ s t o w i y k h. (sound.rests s t o w i y k h.0, changed_one b (suc b) [] s t o w k (All-nil (DepUpTo b)) (resting b (suc b) s o w y) h.1);
-  settles = λ s o slot a shards outcome i e k h. (sound.settles s o slot a shards outcome i e k h.0, plans_stamped b (suc b) (sends (listens s o slot) o (tells_decision a outcome shards)) o
-      (sends_each (Stamped b (suc b)) IsTold o (λ t out q p. sends_one_stamped b (suc b) o t out (told_shard (suc b) out q) p) (tells_decision a outcome shards) (listens s o slot) (decision_outs a outcome shards) (listens_stamped b (suc b) s o slot h.1)));
+  settles = λ s o slot a shards outcome i e k h. (
+    sound.settles s o slot a shards outcome i e k h.0,
+    plans_stamped b (suc b) (sends (listens s o slot) o (tells_decision a outcome shards)) o
+        (sends_each (Stamped b (suc b)) IsTold o (λ t out q p. sends_one_stamped b (suc b) o t out (told_shard (suc b) out q) p) (tells_decision a outcome shards) (listens s o slot) (decision_outs a outcome shards) (listens_stamped b (suc b) s o slot h.1)),
+  );
   settled = λ s o h. h;
   works = λ s t o w i y k h. (sound.works s t o w i y k h.0, changed_one b (suc b) [] s t o w k (All-nil (DepUpTo b)) (working b (suc b) at s o w y (h.1.sessions o)) h.1);
   leaves = λ s t o w outs i y k h.
