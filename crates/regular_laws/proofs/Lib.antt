@@ -1,0 +1,10 @@
+pub mod Writes
+pub mod Keeps
+pub mod Known
+pub mod Txns
+pub mod Calls
+pub mod Done
+pub mod Shown
+pub mod Orders
+pub mod Regular
+pub mod Runs
