@@ -1,30 +1,24 @@
 -- Each event keeps it that messages with shards are with those of the file, and name such alone.
-use Rattle.std.proofs.Common.{◌≡◌, ◌⊎◌, inl, inr, ℕ, zero, suc, ◌+◌, ◌-◌, ◌<◌, ◌≤◌, Bool, true, false, List, [], ◌∷◌, ◌++◌, length, get_or, Option, Some, None, refl, ap, sym, ◌∙◌, subst, arith}
+use Rattle.std.proofs.Common.{◌≡◌, ◌⊎◌, inl, inr, ℕ, zero, suc, ◌+◌, ◌-◌, ◌<◌, Bool, true, false, List, [], ◌∷◌, ◌++◌, length, get_or, Option, Some, None, refl, ap, sym, ◌∙◌, subst, arith}
 use Rattle.std.proofs.lemmas.Bool.{true≢false}
 use Rattle.truetime.specs.Reading.{Reading}
 use Rattle.rss_names.specs.declared.attempt.Attempt.{Attempt}
-use Rattle.rss_names.specs.declared.service.Key.{Key}
-use Rattle.rss_names.specs.declared.service.ServiceId.{ServiceId}
 use Rattle.rss_names.specs.declared.service.Target.{Target}
 use Rattle.rss_names.specs.declared.service.Target.TheVariants.{Shard, Replica}
 use Rattle.pipeline_lang.specs.Config.{home_of}
 use Rattle.pipeline_lang.specs.declared.config.Config.{Config}
 use Rattle.rss_wire.specs.Messages.{message_at}
 use Rattle.rss_wire.specs.declared.envelope.Envelope.{Envelope}
-use Rattle.rss_wire.specs.declared.message.Body.{Body}
 use Rattle.rss_wire.specs.declared.message.Body.TheVariants as body
 use Rattle.rss_wire.specs.declared.message.Message.{Message}
-use Rattle.rss_wire.specs.declared.messages.Holder.{Holder}
-use Rattle.rss_wire.specs.declared.messages.Outcome.{Outcome}
 use Rattle.rss_wire.specs.declared.messages.Reply.{Reply}
 use Rattle.rss_wire.specs.declared.messages.Request.{Request}
 use Rattle.rss_wire.specs.declared.messages.Request.TheVariants as request
 use Rattle.rss_tables.specs.Lines.{Line, decision_request, line_at, lines_of, shards_of, tells_decision}
 use Rattle.rss_tables.specs.Outs.{Out, line_out, slot_shard}
-use Rattle.rss_tables.specs.ShardRow.{Shard as ShardState, opening_shard, shard_after, shard_reply}
-use Rattle.rss_tables.specs.SnapshotSession.{SnapSession, snap_request, snap_starts, snap_hears, snap_wakes}
-use Rattle.rss_tables.specs.TransactionSession.{TxnSession, txn_request, txn_starts, txn_hears, txn_wakes, txn_passes, written_keys}
-use Rattle.rss_tables.specs.Turns.{Turn}
+use Rattle.rss_tables.specs.ShardRow.{Shard as ShardState, opening_shard}
+use Rattle.rss_tables.specs.SnapshotSession.{SnapSession, snap_request, snap_starts}
+use Rattle.rss_tables.specs.TransactionSession.{TxnSession, txn_request, txn_starts, written_keys}
 use Rattle.rss_tables.specs.declared.lines.LineState.{LineState}
 use Rattle.rss_tables.specs.declared.lines.LineState.TheVariants.{Awaiting, Answered, Inquiring, Resolving, Asleep, Dropped}
 use Rattle.rss_tables.specs.declared.phases.SnapPhase.{SnapPhase}
@@ -33,17 +27,15 @@ use Rattle.rss_tables.specs.declared.phases.TxnPhase.{TxnPhase}
 use Rattle.rss_tables.specs.declared.phases.TxnPhase.TheVariants as phase
 use Rattle.rss_machine.specs.Effect.{least_shard}
 use Rattle.rss_machine.specs.Moves.{serves_shard}
-use Rattle.rss_machine.specs.Session.{Session}
 use Rattle.rss_machine.specs.State.{State, Owner, owner_at, shard_at}
-use Rattle.rss_machine.specs.declared.session.OwnerKind.TheVariants as kind
 use Rattle.rss_machine.specs.declared.session.Session.TheVariants as session
 use Rattle.world_laws.specs.NamedKeys.{NamesKeys}
 use Rattle.world_laws.proofs.Looks.{looks}
 use Rattle.session_laws.specs.Awaits.{awaited_by, txn_awaits, snap_awaits}
 use Rattle.session_laws.specs.Frames.{IsLine, nth_line}
-use Rattle.shard_event_laws.specs.Events.{Event, aside, begins_txn, begins_snapshot, txn_hears_one, snap_hears_one, txn_wakes_one, snap_wakes_one, txn_passes_time, sends_again, serves_one, stub_asks, stub_tells, left_to_await, heard_at, Hears, Turns, Launches, SendsAgain, SettlesTo, WasAsked}
+use Rattle.shard_event_laws.specs.Events.{Event, aside, begins_txn, begins_snapshot, txn_hears_one, snap_hears_one, txn_wakes_one, snap_wakes_one, txn_passes_time, sends_again, serves_one, stub_asks, stub_tells, left_to_await, Turns, SendsAgain, WasAsked}
 use Rattle.world_laws.specs.Exchanges.{is_replica}
-use Rattle.shard_event_laws.specs.Facts.{is_with_shards, NetGrows, Sends, SameShards, OneOwner, Aside, no_out}
+use Rattle.shard_event_laws.specs.Facts.{is_with_shards, Sends, SameShards, OneOwner, Aside, no_out}
 use Rattle.shard_event_laws.specs.Known.{Known}
 use Rattle.txn_state_laws.specs.Awaited.{LineHears, AnswersHeard}
 use Rattle.txn_state_laws.specs.Framed.{LinesFit, AllFramed, StubFramed}
@@ -57,7 +49,7 @@ use Rattle.txn_session_laws.proofs.FramedTurns.{waking_is, turned_session}
 use Rattle.txn_session_laws.proofs.UnderWay.{under_way_hears, under_way_keeps}
 use Rattle.target_laws.specs.InFile.{InFile, RequestIn, ReplyIn, BodyIn, MessageIn, TargetIn, OutIn, OutsIn, LineIn, LinesIn, ShardIn, TargetsIn}
 use Rattle.target_laws.proofs.Rows.{after_in, reply_in}
-use Rattle.target_laws.proofs.Turns.{OnShards, ShardsIn, FineTxn, FineTurn, FineSnap, coordinator_is, asks_in, snap_asks_in, tells_in, fine_hears, fine_wakes, fine_passes, snap_hears_fine, snap_wakes_fine, lines_begin}
+use Rattle.target_laws.proofs.Turns.{OnShards, ShardsIn, FineTxn, coordinator_is, asks_in, snap_asks_in, tells_in, fine_hears, fine_wakes, fine_passes, snap_hears_fine, snap_wakes_fine, lines_begin}
 
 -- LINES BY THEIR PLACES
 

@@ -1,21 +1,19 @@
 -- A shard that serves a request of a coordinator of the file knows and names such alone.
-use Rattle.std.proofs.Common.{◌≡◌, ℕ, ◌==◌, Bool, true, false, ◌||◌, not, List, [], ◌∷◌, length, map, filter, Option, Some, None, refl, ap, sym, ◌∙◌, subst, arith}
+use Rattle.std.proofs.Common.{ℕ, ◌==◌, Bool, true, false, ◌||◌, not, List, [], ◌∷◌, length, filter, Option, Some, None}
 use Rattle.std.specs.Prelude.{⊤, is_some, if◌then◌else◌}
 use Rattle.std.proofs.lemmas.Bool.{cond_both}
 use Rattle.rss_names.specs.declared.attempt.Attempt.{Attempt}
 use Rattle.rss_names.specs.declared.service.Key.{Key}
 use Rattle.pipeline_lang.specs.declared.config.Config.{Config}
-use Rattle.rss_wire.specs.declared.messages.Holder.{Holder}
 use Rattle.rss_wire.specs.declared.messages.Outcome.{Outcome}
 use Rattle.rss_wire.specs.declared.messages.Outcome.TheVariants.{Aborted}
-use Rattle.rss_wire.specs.declared.messages.Reply.{Reply}
 use Rattle.rss_wire.specs.declared.messages.Reply.TheVariants as reply
 use Rattle.rss_wire.specs.declared.messages.Request.{Request}
 use Rattle.rss_wire.specs.declared.messages.Request.TheVariants.{Lock, Prepare, Decide, Commit, Abort, Inquire, Release, Snapshot, Fix, Ask, Stamp, Store}
 use Rattle.rss_tables.specs.Attempts.{same_attempt, has_attempt, attempt_lt}
-use Rattle.rss_tables.specs.Locks.{LockHolder, Locks, holds, is_tombstoned, coordinator_in, after_lock, after_wounds, taken, is_wounded_by, in_way_of, conflicts, with_holder, without_holder, named_holders}
-use Rattle.rss_tables.specs.Prepared.{PreparedWriter, prepared_of, prepared_attempts, with_prepared, without_prepared, blocking, passed_by, named_blocking, named_skipped, is_asked_about, must_wait_for}
-use Rattle.rss_tables.specs.ShardRow.{Shard, shard_after, shard_reply, prepares, prepare_time, keeps_decision, asked_outcome, commits, tombstones, aborts, can_release, releases, releases_last, is_clear, lock_reply, prepare_reply, decide_reply, inquire_reply, decision_in}
+use Rattle.rss_tables.specs.Locks.{LockHolder, Locks, holds, is_tombstoned, coordinator_in, after_lock, after_wounds, taken, is_wounded_by, in_way_of, conflicts, with_holder, named_holders}
+use Rattle.rss_tables.specs.Prepared.{PreparedWriter, prepared_of, prepared_attempts, with_prepared, blocking, passed_by, named_blocking, named_skipped}
+use Rattle.rss_tables.specs.ShardRow.{Shard, shard_after, shard_reply, prepares, prepare_time, keeps_decision, asked_outcome, commits, tombstones, can_release, releases, releases_last, is_clear, lock_reply, prepare_reply, decide_reply, inquire_reply, decision_in}
 use Rattle.rss_tables.specs.Versions.{versions_at, newest_of}
 use Rattle.target_laws.specs.InFile.{InFile, HoldersIn, LocksIn, PreparedIn, ShardIn, RequestIn, ReplyIn}
 

@@ -1,15 +1,13 @@
 -- Messages are with shards of the file, in every run.
-use Rattle.std.proofs.Common.{◌≡◌, ℕ, zero, suc, ◌+◌, ◌-◌, ◌<◌, ◌≤◌, List, [], ◌∷◌, length, get_or, Some, refl, ap, sym, ◌∙◌, subst, arith}
+use Rattle.std.proofs.Common.{◌≡◌, ℕ, zero, suc, ◌+◌, ◌-◌, List, [], ◌∷◌, get_or, Some, ap, arith}
 use Rattle.std.specs.List.{All}
 use Rattle.truetime.specs.Reading.{Reading}
 use Rattle.rss_names.specs.declared.service.ServiceId.{ServiceId}
-use Rattle.rss_names.specs.declared.service.Target.{Target}
-use Rattle.rss_names.specs.declared.service.Target.TheVariants.{Shard}
 use Rattle.pipeline_lang.specs.declared.config.Config.{Config}
 use Rattle.rss_tables.specs.ShardRow.{opening_shard}
 use Rattle.rss_machine.specs.Moves.{ticks}
 use Rattle.rss_machine.specs.Run.{run, readings_of}
-use Rattle.rss_machine.specs.State.{State, Owner, start, shards_from, keys_from, shard_at}
+use Rattle.rss_machine.specs.State.{State, Owner, start, shards_from}
 use Rattle.rss_machine.specs.declared.step.Step.{Step}
 use Rattle.world_laws.specs.Laws.{IsOrdered}
 use Rattle.world_laws.specs.NamedKeys.{NamesKeys}

@@ -1,7 +1,7 @@
 -- A turn of a transaction or a snapshot whose lines wait for coordinators of the file asks such alone.
-use Rattle.std.proofs.Common.{◌≡◌, ℕ, zero, suc, ◌+◌, ◌==◌, ◌<◌, ◌≤◌, Bool, true, false, not, List, [], ◌∷◌, ◌++◌, length, map, filter, Option, Some, None, refl, ap, sym, ◌∙◌, subst, arith}
+use Rattle.std.proofs.Common.{◌≡◌, ℕ, zero, suc, ◌+◌, ◌==◌, ◌<◌, Bool, true, false, not, List, [], ◌∷◌, ◌++◌, length, map, filter, refl, sym, subst, arith}
 use Rattle.std.specs.Prelude.{⊤, nat_lt, if◌then◌else◌}
-use Rattle.std.proofs.lemmas.Bool.{cond_both, eqb-true, eq-eqb}
+use Rattle.std.proofs.lemmas.Bool.{cond_both}
 use Rattle.std.proofs.lemmas.List.{length-map}
 use Rattle.truetime.specs.Reading.{Reading}
 use Rattle.rss_names.specs.declared.attempt.Attempt.{Attempt}
@@ -12,18 +12,18 @@ use Rattle.rss_wire.specs.declared.messages.Outcome.{Outcome}
 use Rattle.rss_wire.specs.declared.messages.Outcome.TheVariants.{Committed, Aborted}
 use Rattle.rss_wire.specs.declared.messages.Reply.{Reply}
 use Rattle.rss_wire.specs.declared.messages.Reply.TheVariants as reply
-use Rattle.rss_tables.specs.Lines.{Line, line_at, with_line, all_awaiting, only_awaiting, in_state, coordinator_of, shards_of, tells_decision, decision_request, blocked_state, blocked_outs, resolving_state, resolving_outs, sleeping_state, woken_state, woken_outs, all_answered, keys_on, line_before, lines_from, lines_of, opening_line}
-use Rattle.rss_tables.specs.Outs.{Out, line_out, told}
+use Rattle.rss_tables.specs.Lines.{Line, line_at, with_line, all_awaiting, only_awaiting, in_state, coordinator_of, shards_of, tells_decision, decision_request, blocked_state, blocked_outs, resolving_state, resolving_outs, sleeping_state, woken_state, woken_outs, all_answered, keys_on, lines_from, lines_of, opening_line}
+use Rattle.rss_tables.specs.Outs.{Out, told}
 use Rattle.rss_tables.specs.SnapshotSession.{SnapSession, snap_request, snap_asks, snap_phase_ends, second_round, snapshot_time, must_ask_again, asked_again, snap_told, snap_line_goes, snap_hears, snap_wakes}
 use Rattle.rss_tables.specs.Turns.{Turn, quiet}
-use Rattle.rss_tables.specs.TransactionSession.{TxnSession, attempt_of, txn_request, asks_lines, begins_phase, goes_to_prepare, goes_to_free_last, goes_to_free, failing_time, is_locked, is_prepared, phase_ends, is_phase_done, is_told, line_goes, is_wounded, is_committed, is_decided, txn_hears, txn_wakes, txn_passes, guard_of, values_shown, leads, wait_of}
+use Rattle.rss_tables.specs.TransactionSession.{TxnSession, attempt_of, txn_request, asks_lines, begins_phase, goes_to_prepare, goes_to_free, failing_time, is_locked, phase_ends, is_phase_done, is_told, line_goes, is_committed, is_decided, txn_hears, txn_wakes, txn_passes, guard_of, values_shown, leads, wait_of}
 use Rattle.rss_tables.specs.declared.lines.LineState.{LineState}
 use Rattle.rss_tables.specs.declared.lines.LineState.TheVariants.{Awaiting, Answered, Inquiring, Resolving, Asleep, Dropped}
 use Rattle.rss_tables.specs.declared.phases.SnapPhase.{SnapPhase}
 use Rattle.rss_tables.specs.declared.phases.SnapPhase.TheVariants as snap
 use Rattle.rss_tables.specs.declared.phases.TxnPhase.{TxnPhase}
 use Rattle.rss_tables.specs.declared.phases.TxnPhase.TheVariants as phase
-use Rattle.target_laws.specs.InFile.{InFile, HoldersIn, RequestIn, ReplyIn, OutIn, OutsIn, StateIn, LineIn, LinesIn}
+use Rattle.target_laws.specs.InFile.{InFile, HoldersIn, RequestIn, ReplyIn, OutsIn, StateIn, LineIn, LinesIn}
 
 -- LINES
 
