@@ -68,11 +68,11 @@ pub read_sound : (file : List ℕ) (c : Config) → config_of file ≡ Ok c → 
 read_sound file c e = files_are_sound file c e
 
 -- and where it runs, the places of each of its runs are regular
-run_is_ordered : (c : Config) (steps : List Step) (s : State) → IsSoundFile c → is_built c ≡ true → run c steps ≡ Some s → HasRegularPlaces s
+pub run_is_ordered : (c : Config) (steps : List Step) (s : State) → IsSoundFile c → is_built c ≡ true → run c steps ≡ Some s → HasRegularPlaces s
 run_is_ordered c steps s f built e = regular_places c f.in_order (built_keeps c (built_is c built)) steps s e
 
 -- and each stage follows its script
-run_follows_scripts : (c : Config) (steps : List Step) (s : State) → IsSoundFile c → are_numbered steps ≡ true → run c steps ≡ Some s → (stage : ℕ) → ScriptRun c s.history stage
+pub run_follows_scripts : (c : Config) (steps : List Step) (s : State) → IsSoundFile c → are_numbered steps ≡ true → run c steps ≡ Some s → (stage : ℕ) → ScriptRun c s.history stage
 run_follows_scripts c steps s f numbered e = λ stage. script_run c steps s stage f.spawns f.pipes numbered e
 
 -- THE UNAVAILABLE
@@ -84,22 +84,22 @@ no_shards c steps s built kinds e = λ m shard z l t.
     absurd (false≢true (sym (ap is_replica t) ∙ here))
 
 -- and who is cut off from a target was withheld it
-run_ends_where_withheld : (c : Config) (steps : List Step) (s : State) → IsSoundFile c → is_built c ≡ true → are_built steps ≡ true → run c steps ≡ Some s → (owner : ℕ) (target : Target) → (owner_at s owner).fate ≡ CutOff target → IsWithheld c steps owner target
+pub run_ends_where_withheld : (c : Config) (steps : List Step) (s : State) → IsSoundFile c → is_built c ≡ true → are_built steps ≡ true → run c steps ≡ Some s → (owner : ℕ) (target : Target) → (owner_at s owner).fate ≡ CutOff target → IsWithheld c steps owner target
 run_ends_where_withheld c steps s f built kinds e = λ owner target cut.
     withheld c steps s owner target e f.within.places (no_shards c steps s built kinds e) cut
 
 -- and a stage is over as unavailable only where something was withheld from a statement of it
-run_hurts_where_withheld : (c : Config) (steps : List Step) (s : State) → IsSoundFile c → is_built c ≡ true → are_built steps ≡ true → run c steps ≡ Some s → (stage : ℕ) → (stage_at s stage).life ≡ Over Unavailable → HurtBy c steps s stage
+pub run_hurts_where_withheld : (c : Config) (steps : List Step) (s : State) → IsSoundFile c → is_built c ≡ true → are_built steps ≡ true → run c steps ≡ Some s → (stage : ℕ) → (stage_at s stage).life ≡ Over Unavailable → HurtBy c steps s stage
 run_hurts_where_withheld c steps s f built kinds e =
     (stages c steps s e f.within.places (no_shards c steps s built kinds e)).unavailable
 
 -- THE PROMISE
 
 -- what holds of the state's history and places holds of the run's
-order_of_run : (h : Option State) (s : State) → h ≡ Some s → HasRegularPlaces s → Regular (history_in h) (order_in h)
+pub order_of_run : (h : Option State) (s : State) → h ≡ Some s → HasRegularPlaces s → Regular (history_in h) (order_in h)
 order_of_run h s e o = subst (λ (h : Option State). Regular (history_in h) (order_in h)) (sym e) o
 
-scripts_of_run : (c : Config) (h : Option State) (s : State) → h ≡ Some s → ((stage : ℕ) → ScriptRun c s.history stage) → (stage : ℕ) → ScriptRun c (history_in h) stage
+pub scripts_of_run : (c : Config) (h : Option State) (s : State) → h ≡ Some s → ((stage : ℕ) → ScriptRun c s.history stage) → (stage : ℕ) → ScriptRun c (history_in h) stage
 scripts_of_run c h s e o = subst (λ (h : Option State). (stage : ℕ) → ScriptRun c (history_in h) stage) (sym e) o
 
 -- what every reported run owes, of a file that is read and that runs
