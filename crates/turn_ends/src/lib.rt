@@ -1,0 +1,11 @@
+//! Theory: owners stay of their stages in a turn, and fence statements and stubs that end in one have the
+//! least times that they had before it.
+#![tactic(auto)]
+
+ghost use Rattle.turn_ends.specs.Ends.{EndsKeepLeastTimes};
+
+/// An owner stays of its stage in a turn, and a fence statement or a stub that is done in it has the least
+/// times that it had before, whatever turn that is.
+pub fn ends_keep_least_times()
+    ensures { EndsKeepLeastTimes }
+{}
