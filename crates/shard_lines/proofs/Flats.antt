@@ -16,7 +16,7 @@ use Rattle.rss_tables.specs.SnapshotSession.{asked_again, must_ask_again}
 use Rattle.rss_tables.specs.TransactionSession.{greatest_prepared, greatest_shown, greatest_time}
 use Rattle.rss_tables.specs.declared.lines.LineState.TheVariants.{Awaiting}
 use Rattle.rss_tables.specs.Lines as tables
-use Rattle.shard_lines.specs.Flat.{HasShard, IsPlace, awaiting, awaiting_one, opened, open_line, are_answered, last_prepared, AreShown, AreSkips, version_of, awaiting_but, awaits_unless, last_shown, may_stand_by, awaiting_passed}
+use Rattle.shard_lines.specs.Flat.{HasShard, IsPlace, has_line, has_flat, awaiting, awaiting_one, opened, open_line, are_answered, last_prepared, AreShown, AreSkips, version_of, awaiting_but, awaits_unless, last_shown, may_stand_by, awaiting_passed}
 
 pub lines_length : (keys : List Key) (shown : List (Key × Version)) (skipped : List Skipped) (fs : List FlatLine) → length (map (read_line keys shown skipped) fs) ≡ length fs
 lines_length keys shown skipped fs = length-map fs (read_line keys shown skipped)
@@ -146,6 +146,14 @@ place_is keys shown skipped ks vs ss fs ls at shard d v h p = record {
   inside = omega (arith, p.inside, view_length keys shown skipped fs ls v);
   same = ap (λ (z : List Line). get_or z at no_line) (sym v) ∙ read_one keys shown skipped fs at d p.inside ∙ line_at_place keys shown skipped ks vs ss fs at shard d h p.inside (p.same d) ∙ ap (λ (z : List Line). line_at z shard) v;
 }
+
+-- whether there is a line of a shard
+has_read : (keys : List Key) (shown : List (Key × Version)) (skipped : List Skipped) (fs : List FlatLine) (shard : ℕ) → has_line (map (read_line keys shown skipped) fs) shard ≡ has_flat fs shard
+has_read keys shown skipped [] shard = refl
+has_read keys shown skipped (f ∷ fs) shard = ap (λ (b : Bool). if f.shard == shard then true else b) (has_read keys shown skipped fs shard)
+
+pub no_place : (keys : List Key) (shown : List (Key × Version)) (skipped : List Skipped) (fs : List FlatLine) (ls : List Line) (shard : ℕ) → map (read_line keys shown skipped) fs ≡ ls → has_flat fs shard ≡ false → has_line ls shard ≡ false
+no_place keys shown skipped fs ls shard v h = ap (λ (z : List Line). has_line z shard) (sym v) ∙ has_read keys shown skipped fs shard ∙ h
 
 above_map : (f : FlatLine → FlatLine) → ((x : FlatLine) → (f x).shard ≡ x.shard) → (shard : ℕ) (fs : List FlatLine) → AreAbove shard fs → AreAbove shard (map f fs)
 above_map f same shard [] h = tt

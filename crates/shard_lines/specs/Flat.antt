@@ -1,5 +1,5 @@
 -- Lines read from four vectors.
-use Rattle.std.specs.Prelude.{◌≡◌, ℕ, ◌+◌, ◌<◌, ◌≤◌, ◌==◌, max, Bool, List, [], ◌∷◌, ◌++◌, length, take, drop, map, get_or, nat_le, if◌then◌else◌}
+use Rattle.std.specs.Prelude.{◌≡◌, ℕ, ◌+◌, ◌<◌, ◌≤◌, ◌==◌, max, Bool, true, false, List, [], ◌∷◌, ◌++◌, length, take, drop, map, get_or, nat_le, if◌then◌else◌}
 use Rattle.std.specs.List.{list_all, list_any}
 use Rattle.rss_names.specs.declared.service.Key.{Key}
 use Rattle.rss_wire.specs.declared.messages.Skipped.{Skipped}
@@ -147,3 +147,13 @@ awaits_unless shard l = if l.shard == shard then l else in_state l Awaiting
 abbrev pub last_shown : List (Key × Version) → List FlatLine → ℕ
 last_shown shown [] = 0
 last_shown shown (l ∷ lines) = max (greatest_time (part shown l.shown)) (last_shown shown lines)
+
+-- whether one of these lines is of a shard
+abbrev pub has_line : List Line → ℕ → Bool
+has_line [] shard = false
+has_line (l ∷ lines) shard = if l.shard == shard then true else has_line lines shard
+
+-- the same of the lines that are kept
+abbrev pub has_flat : List FlatLine → ℕ → Bool
+has_flat [] shard = false
+has_flat (l ∷ lines) shard = if l.shard == shard then true else has_flat lines shard

@@ -1,9 +1,9 @@
 //! What is done to each line, and asked of all.
 
-ghost use Rattle.std.specs.Prelude.{◌≡◌, ◌+◌, ◌<◌, ◌≤◌, map, length, get_or, vec_len, vec_capacity, ◌++◌, IfSome, IfNone};
+ghost use Rattle.std.specs.Prelude.{◌≡◌, ◌+◌, ◌<◌, ◌≤◌, false, map, length, get_or, vec_len, vec_capacity, ◌++◌, IfSome, IfNone};
 ghost use Rattle.rss_tables.specs.Lines.{version_in as shown_in, is_answered as is_done};
 ghost use Rattle.rss_tables.specs.TransactionSession.{greatest_time as last_time};
-ghost use Rattle.shard_lines.specs.Flat.{awaiting, awaiting_one, awaiting_but, awaiting_passed, opened, are_answered, last_prepared, last_shown, may_stand_by as stands_by, HasShard, AreShown, AreSkips, version_of, part};
+ghost use Rattle.shard_lines.specs.Flat.{awaiting, awaiting_one, awaiting_but, awaiting_passed, opened, are_answered, last_prepared, last_shown, may_stand_by as stands_by, HasShard, has_flat, AreShown, AreSkips, version_of, part};
 
 use crate::flat::{FlatLine, Part};
 use rss_names::{Key, ShardId, is_same_key};
@@ -13,6 +13,7 @@ use rss_wire::{Skipped, Version};
 /// The place of a shard's line.
 pub fn place_of(lines: &[FlatLine], shard: ShardId) -> Option<usize>
     ensures found { IfSome result (λ at. HasShard lines.now at shard) }
+    ensures missing { IfNone result (has_flat lines.now shard ≡ false) }
 {
     for at in 0..lines.len() {
         if lines[at].shard == shard {

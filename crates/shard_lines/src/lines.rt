@@ -1,10 +1,10 @@
 //! All lines of a call.
 
-ghost use Rattle.std.specs.Prelude.{◌≡◌, ◌+◌, ◌<◌, ◌≤◌, map, length, get_or, IfSome, IfOk, OnOk};
+ghost use Rattle.std.specs.Prelude.{◌≡◌, ◌+◌, ◌<◌, ◌≤◌, map, length, get_or, false, IfSome, IfNone, IfOk, OnOk};
 ghost use Rattle.rss_tables.specs.Lines.{no_line, with_line, in_state, all_answered as are_answered, all_awaiting, only_awaiting as one_awaits, asleep_on as sleeps_on, coordinator_of, shown_on, lines_of};
 ghost use Rattle.rss_tables.specs.SnapshotSession.{asked_again, must_ask_again as must_ask};
 ghost use Rattle.rss_tables.specs.declared.lines.LineState.TheVariants.{Answered};
-ghost use Rattle.shard_lines.specs.Flat.{IsPlace, AreHomed, open_line, home_in, awaits_unless};
+ghost use Rattle.shard_lines.specs.Flat.{IsPlace, has_line, AreHomed, open_line, home_in, awaits_unless};
 ghost use Rattle.rss_tables.specs.TransactionSession.{greatest_prepared as prepared_last, greatest_shown as shown_last};
 
 use crate::flat::{FlatLine, Part};
@@ -108,6 +108,7 @@ impl Lines {
     #[tactic(auto, using(crate::proofs::Flats::views))]
     pub fn place_of(&self, shard: ShardId) -> Option<usize>
         ensures found { IfSome result (λ at. IsPlace self.now.lines at shard) }
+        ensures missing { IfNone result (has_line self.now.lines shard ≡ false) }
     {
         each::place_of(self.lines.as_slice(), shard)
     }

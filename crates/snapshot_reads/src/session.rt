@@ -1,10 +1,10 @@
 //! The session, and what is seen of it.
 
-ghost use Rattle.std.specs.Prelude.{◌≡◌, ◌<◌, ◌≤◌, [], ◌∷◌, length, get_or, IfOk, IfSome, vec_capacity};
+ghost use Rattle.std.specs.Prelude.{◌≡◌, ◌<◌, ◌≤◌, [], ◌∷◌, length, get_or, false, IfOk, IfSome, IfNone, vec_capacity};
 ghost use Rattle.rss_tables.specs.Lines.{no_line, asleep_on as sleeps_on};
 ghost use Rattle.rss_tables.specs.SnapshotSession.{snap_end};
 ghost use Rattle.rss_tables.specs.TransactionSession.{shown_reply};
-ghost use Rattle.shard_lines.specs.Flat.{AreHomed, IsPlace, home_in};
+ghost use Rattle.shard_lines.specs.Flat.{AreHomed, IsPlace, has_line, home_in};
 ghost use Rattle.snapshot_reads.specs.Session.{snap_of, opening_of};
 
 use crate::snap::Snap;
@@ -65,7 +65,8 @@ impl Session {
 
     /// The place of a shard's line; `None` where the shard has none.
     pub fn place_of(&self, shard: ShardId) -> Option<usize>
-        ensures { IfSome result (λ at. IsPlace self.now.lines at shard) }
+        ensures found { IfSome result (λ at. IsPlace self.now.lines at shard) }
+        ensures missing { IfNone result (has_line self.now.lines shard ≡ false) }
     {
         self.lines.place_of(shard)
     }

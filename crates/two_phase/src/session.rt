@@ -1,9 +1,9 @@
 //! The session, and what is seen of it.
 
-ghost use Rattle.std.specs.Prelude.{◌≡◌, ◌<◌, ◌≤◌, [], ◌∷◌, length, get_or, IfOk, IfSome, vec_capacity};
+ghost use Rattle.std.specs.Prelude.{◌≡◌, ◌<◌, ◌≤◌, [], ◌∷◌, length, get_or, false, IfOk, IfSome, IfNone, vec_capacity};
 ghost use Rattle.rss_tables.specs.Lines.{no_line, asleep_on as sleeps_on};
 ghost use Rattle.rss_tables.specs.TransactionSession.{written_keys, attempt_of as attempt_in, txn_end, has_failed as failed_at, waiting_time as waits_for, shown_reply};
-ghost use Rattle.shard_lines.specs.Flat.{AreHomed, IsPlace, home_in};
+ghost use Rattle.shard_lines.specs.Flat.{AreHomed, IsPlace, has_line, home_in};
 ghost use Rattle.two_phase.specs.Session.{txn_of, opening_of};
 
 use crate::txn::Txn;
@@ -78,9 +78,18 @@ impl Session {
 
     /// The place of a shard's line; `None` where the shard has none.
     pub fn place_of(&self, shard: ShardId) -> Option<usize>
-        ensures { IfSome result (λ at. IsPlace self.now.lines at shard) }
+        ensures found { IfSome result (λ at. IsPlace self.now.lines at shard) }
+        ensures missing { IfNone result (has_line self.now.lines shard ≡ false) }
     {
         self.lines.place_of(shard)
+    }
+
+    /// The shard of a line.
+    pub fn shard(&self, line: usize) -> ShardId
+        requires { line < length self.now.lines }
+        ensures { result ≡ (get_or self.now.lines line no_line).shard }
+    {
+        self.lines.shard(line)
     }
 
     /// How many lines there are.
