@@ -1,0 +1,28 @@
+//! The laws of all that the code of a step needs. They hold no code: each is the contract of a function that
+//! does nothing.
+
+ghost use Rattle.run_laws.specs.Facts.{RunsKeepAll};
+ghost use Rattle.run_laws.specs.Laws.{WorksFitFiles};
+ghost use Rattle.world_laws.specs.Ready.{RunsAreReady};
+
+/// In every run of a file that is sound, whose readings begin no later than they end and end below their
+/// limit: an owner has sixteen fences left at most, of services numbered from 1 to 8; no more than sixteen
+/// fences of a service were planned for each step; and what is depended on are registers of the file, of
+/// each one dependency at most, in the context of each stage and the copy of each owner.
+pub fn works_fit_files()
+    ensures { WorksFitFiles }
+{}
+
+/// In every such run whose steps name stages by their numbers from 1: sizes, stamps, times, messages,
+/// links, stubs, operations and works are what the code of a step needs them to be.
+pub fn runs_are_ready()
+    ensures { RunsAreReady }
+{}
+
+/// In every such run: all of that; contexts have their orders, those of owners that are over too; shards,
+/// locks and lines name shards of the file; each reply is one to its request; a stage that lives stands at
+/// the depth of the blocks that are open, and one whose fence statement is under way at that statement;
+/// whom a line waits for is a call; and sessions are with seven replicas, or on sixteen shards at most.
+pub fn runs_keep_all()
+    ensures { RunsKeepAll }
+{}

@@ -1,0 +1,11 @@
+pub mod Raised
+pub mod Contexts
+pub mod Rows
+pub mod Turns
+pub mod Owners
+pub mod Moves
+pub mod Runs
+pub mod Rooms
+pub mod RoomRuns
+pub mod CallerRows
+pub mod Callers
