@@ -48,6 +48,10 @@ use Rattle.token_laws.specs.Tied.{Tied, Stands, waits, idles, calls, fences, lef
 use Rattle.token_laws.proofs.Between.{walked_now}
 use Rattle.token_laws.proofs.Kept.{kept}
 use Rattle.token_laws.proofs.ScriptRuns.{tied_run}
+use Rattle.run_laws.proofs.Blocks.{blocks_few}
+use Rattle.run_laws.proofs.Operations.{calls_of_one}
+use Rattle.run_laws.proofs.Sleepers.{sleepers_there}
+use Rattle.target_laws.specs.InFile.{TargetsIn}
 use Rattle.run_laws.specs.Facts.{CursorsFit, SessionsFew, RunKeeps}
 use Rattle.size_laws.specs.Fine.{WorkFine}
 use Rattle.size_laws.proofs.Callers.{calls_run}
@@ -159,12 +163,15 @@ keeps_run c steps s f a z e = record {
   ready = ready_run c steps s f a z e;
   forms = have_form c steps s f (ordered steps a) z e;
   copies = copies_have c steps s f a e;
-  targets = targets_in c steps s f (ordered steps a) e;
+  targets = targets;
   exchanges = exchanges;
-  cursors = cursors_fit c s f h;
+  cursors = cursors;
   fences = λ n o y x k. fence_at c s n o (h.walk n) (links_run c steps s e).own x k (h.stands n y);
   calls = calls_run c steps s e;
   few = sessions_few s (all_few c steps s f e);
+  one_service = calls_of_one c steps s f e;
+  blocks = blocks_few c s f cursors;
+  sleepers = sleepers_there c s (sizes_run c steps s f e).shards targets (calls_run c steps s e);
 }
   where
     h : Tied c s
@@ -172,3 +179,9 @@ keeps_run c steps s f a z e = record {
 
     exchanges : Exchanges s.net
     exchanges = exchanges_run c steps s e
+
+    targets : TargetsIn c s
+    targets = targets_in c steps s f (ordered steps a) e
+
+    cursors : CursorsFit c s
+    cursors = cursors_fit c s f h

@@ -1,1 +1,4 @@
+pub mod Operations
+pub mod Blocks
+pub mod Sleepers
 pub mod Facts

@@ -20,9 +20,11 @@ pub fn runs_are_ready()
 {}
 
 /// In every such run: all of that; contexts have their orders, those of owners that are over too; shards,
-/// locks and lines name shards of the file; each reply is one to its request; a stage that lives stands at
-/// the depth of the blocks that are open, and one whose fence statement is under way at that statement;
-/// whom a line waits for is a call; and sessions are with seven replicas, or on sixteen shards at most.
+/// locks and lines name shards of the file; each reply is one to its request; whom a line waits for is a
+/// call, and where it sleeps, at a shard that is there; sessions are with seven replicas, or on sixteen
+/// shards at most; the keys of a snapshot and of a transaction are of one service, each once in a list; a
+/// stage that lives stands at the depth of the blocks that are open, and has fewer than four open where it
+/// comes to a statement that opens one; and a fence statement that is under way is the next of its stage.
 pub fn runs_keep_all()
     ensures { RunsKeepAll }
 {}

@@ -32,7 +32,6 @@ use Rattle.rss_machine.specs.Moves.{round_without, session_without}
 use Rattle.rss_machine.specs.Session.{Session, service_of}
 use Rattle.rss_machine.specs.State.{State, Owner, owner_at, opening_owner}
 use Rattle.rss_machine.specs.declared.session.OwnerKind.{OwnerKind}
-use Rattle.rss_machine.specs.declared.session.OwnerKind.TheVariants as kind
 use Rattle.rss_machine.specs.declared.session.Session.TheVariants as session
 use Rattle.rss_names.specs.Services.{same_service}
 use Rattle.causal_context.specs.Services.{IsService}

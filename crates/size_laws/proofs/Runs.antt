@@ -21,7 +21,6 @@ use Rattle.rss_machine.specs.Refusal.{refusal}
 use Rattle.rss_machine.specs.Run.{run, run_from, readings_of}
 use Rattle.rss_machine.specs.Session.{Session}
 use Rattle.rss_machine.specs.State.{State, Owner, start, no_stage, no_owner, stages_from, shards_from, keys_from, owner_at, pipe_at, shard_at, cells_at}
-use Rattle.rss_machine.specs.declared.session.OwnerKind.TheVariants as kind
 use Rattle.rss_machine.specs.declared.session.Session.TheVariants as session
 use Rattle.rss_machine.specs.declared.step.Step.{Step}
 use Rattle.world_laws.specs.Shapes.{IsSoundFile}
