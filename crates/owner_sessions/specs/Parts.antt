@@ -1,5 +1,5 @@
 -- The tables' session, of the parts that the code keeps of it.
-use Rattle.std.specs.Prelude.{◌≡◌, ℕ, Bool, true, false, List, [], length, Option, Some, None}
+use Rattle.std.specs.Prelude.{◌≡◌, ℕ, ◌<◌, ◌^◌, Bool, true, false, List, [], length, Option, Some, None}
 use Rattle.rss_names.specs.declared.service.Key.{Key}
 use Rattle.rss_names.specs.declared.service.ServiceId.{ServiceId}
 use Rattle.pipeline_lang.specs.declared.script.Expr.{Expr}
@@ -128,6 +128,7 @@ pub record TellsTxn (x : Txn) (k : OwnerKind) (c : Called) : Type 0 where
   pub writes : x.writes.now ≡ writes_in k
   pub least : x.least ≡ c.least
   pub margin : x.margin ≡ c.margin
+  pub small : x.margin < 2 ^ 62
 
 pub record TellsSnap (x : Snap) (k : OwnerKind) (c : Called) : Type 0 where
   pub call : x.call ≡ c.call

@@ -1,6 +1,6 @@
 //! What the sessions of transactions and snapshots are told of their owner's call.
 
-ghost use Rattle.std.specs.Prelude.{◌≡◌};
+ghost use Rattle.std.specs.Prelude.{◌≡◌, ◌<◌, ◌^◌};
 ghost use Rattle.rss_machine.specs.declared.session.OwnerKind.TheVariants.{Calling};
 ghost use Rattle.owner_sessions.specs.Parts.{TellsTxn, TellsSnap};
 
@@ -61,6 +61,7 @@ fn whole_txn<'a>(
     ensures writes { result.writes.now ≡ writes.now }
     ensures least { result.least ≡ called.least }
     ensures margin { result.margin ≡ called.margin }
+    ensures small { result.margin < 2 ^ 62 }
 {
     Txn {
         call: called.call,
