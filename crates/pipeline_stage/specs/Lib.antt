@@ -1,0 +1,4 @@
+pub mod Blocks
+pub mod Statements
+pub mod Marks
+pub mod CopiesView
