@@ -1,0 +1,4 @@
+pub mod Closing
+pub mod Taking
+pub mod Settling
+pub mod Making
