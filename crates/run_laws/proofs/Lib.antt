@@ -1,4 +1,5 @@
 pub mod Operations
 pub mod Blocks
 pub mod Sleepers
+pub mod Acts
 pub mod Facts

@@ -2,7 +2,7 @@
 //! does nothing.
 
 ghost use Rattle.run_laws.specs.Facts.{RunsKeepAll};
-ghost use Rattle.run_laws.specs.Laws.{WorksFitFiles};
+ghost use Rattle.run_laws.specs.Laws.{ActsFindTimesPassed, WakingLinesSleep, WorksFitFiles};
 ghost use Rattle.world_laws.specs.Ready.{RunsAreReady};
 
 /// In every run of a file that is sound, whose readings begin no later than they end and end below their
@@ -27,4 +27,15 @@ pub fn runs_are_ready()
 /// comes to a statement that opens one; and a fence statement that is under way is the next of its stage.
 pub fn runs_keep_all()
     ensures { RunsKeepAll }
+{}
+
+/// Whatever the state: of the lines of a session the one that wakes sleeps.
+pub fn waking_lines_sleep()
+    ensures { WakingLinesSleep }
+{}
+
+/// And in an act that is allowed the time that an owner waits for, with its works or as a committed
+/// transaction, is below the beginning of the reading.
+pub fn acts_find_times_passed()
+    ensures { ActsFindTimesPassed }
 {}

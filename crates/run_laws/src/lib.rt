@@ -3,4 +3,6 @@
 
 mod laws;
 
-pub use laws::{runs_are_ready, runs_keep_all, works_fit_files};
+pub use laws::{
+    acts_find_times_passed, runs_are_ready, runs_keep_all, waking_lines_sleep, works_fit_files,
+};
