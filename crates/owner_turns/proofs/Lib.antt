@@ -1,0 +1,15 @@
+pub mod Places
+pub mod Chosen
+pub mod Listed
+pub mod Firsts
+pub mod Sent
+pub mod Opened
+pub mod Through
+pub mod Kept
+pub mod Heard
+pub mod Timed
+pub mod Acted
+pub mod Stubbed
+pub mod Answered
+pub mod Roomy
+pub mod Left
