@@ -1,0 +1,10 @@
+pub mod Images
+pub mod Windows
+pub mod Steps
+pub mod Blocks
+pub mod Lists
+pub mod Fronts
+pub mod Settled
+pub mod Requests
+pub mod Opening
+pub mod Serves
