@@ -12,11 +12,11 @@ handle_all-requires-clause-registers c = ap length c.in_ok-opened.ensures.held �
 
 pub returns-clause-registers : goal.returns-clause-registers
 returns-clause-registers c =
-    c.into_parts.ensures.held
+    c.into_parts-disk.ensures.held
     ∙ serve_registers _ _ _ c.args.registers _ _ c.args.requests.now c.in_ok-disk.ensures c.in_ok-opened.ensures.held c.in_ok-replica.ensures.held
 
 pub returns-clause-stops : goal.returns-clause-stops
 returns-clause-stops c =
-    c.stops.ensures ∙ ap (λ (m : Memory). stops_met m) c.into_parts.ensures.disk
+    c.stops.ensures ∙ ap (λ (m : Memory). stops_met m) c.into_parts-disk.ensures.disk
     ∙ serve_stops _ _ _ _ c.args.stop c.args.registers _ c.args.requests.now (omega (arith, c.ranges.stop.fits)) c.in_ok-disk.ensures
     c.in_ok-opened.ensures.held c.in_ok-opened.ensures.bytes c.in_ok-opened.ensures.goes_on c.in_ok-replica.ensures.goes_on
