@@ -470,8 +470,7 @@ fn put_places(alloc: Global, text: &mut Vec<u8>, calls: &[CallId]) -> Result<(),
 }
 
 /// The text of a history, by the names of its file, and of an order of its calls: a line for each
-/// entry, the line `%places`, and a line for each call of the order. `read_history` reads it back
-/// where the history has no bad line and its names and numbers are those of the file.
+/// entry, the line `%places`, and a line for each call of the order.
 #[tactic(auto, unfolding(crate::specs::Spelling::history_text))]
 pub fn print_history(
     alloc: Global,
