@@ -1,10 +1,11 @@
 -- The rows in which the marks are kept, one for each register.
-use Rattle.std.specs.Prelude.{◌≡◌, ℕ, zero, suc, Bool, true, ◌&&◌, ◌||◌, List, [], ◌∷◌, ◌++◌, map, get_or, if◌then◌else◌}
+use Rattle.std.specs.Prelude.{◌≡◌, ℕ, zero, suc, Bool, true, ◌&&◌, ◌||◌, List, [], ◌∷◌, ◌++◌, map, get_or, set, if◌then◌else◌}
 use Rattle.rss_names.specs.declared.service.Key.{Key}
 use Rattle.carstamps.specs.declared.carstamp.Carstamp.{Carstamp}
 use Rattle.carstamps.specs.Stamp.{stamp_lt, stamp_le}
 use Rattle.rss_wire.specs.declared.messages.RegReply.{RegReply}
-use Rattle.rss_machine.specs.Marks.{is_noted, majority_stamp}
+use Rattle.rss_wire.specs.declared.messages.Request.{Request}
+use Rattle.rss_machine.specs.Marks.{is_noted, majority_stamp, raised_by}
 use Rattle.rss_machine.specs.declared.state.Mark.{Mark}
 
 -- the marks of one register, and whether there is room for one more
@@ -19,6 +20,28 @@ no_marks = record { marks = []; room = true }
 -- the marks of all
 abbrev pub marks_of : List MarksView → List (List Mark)
 marks_of rows = map (λ (r : MarksView). r.marks) rows
+
+-- whether each has room
+abbrev pub rooms_of : List MarksView → List Bool
+rooms_of rows = map (λ (r : MarksView). r.room) rows
+
+-- whether the register of a key has room; one that is not there needs none
+abbrev pub room_at : List Bool → Key → Bool
+room_at rooms key = get_or rooms key.index true
+
+-- whether the registers of these keys have room
+abbrev pub have_room_at : List Bool → List Key → Bool
+have_room_at rooms [] = true
+have_room_at rooms (key ∷ keys) = room_at rooms key && have_room_at rooms keys
+
+-- whether each register on which a request may raise a stamp has room for one more mark
+abbrev pub has_room_for : List Bool → Request → Bool
+has_room_for rooms r = have_room_at rooms (raised_by r)
+
+-- room is made at these keys
+abbrev pub with_rooms : List Bool → List Key → List Bool
+with_rooms rooms [] = rooms
+with_rooms rooms (key ∷ keys) = with_rooms (set rooms key.index true) keys
 
 -- the first ones have room
 abbrev pub have_room_upto : ℕ → List MarksView → Bool
@@ -54,6 +77,15 @@ with_mark marks stamp step =
 abbrev pub is_ready : List (List RegReply) → MarksView → Key → Bool
 is_ready replicas row key = row.room || is_noted row.marks (majority_stamp replicas key)
 
--- each register is ready for what a majority of these replicas holds
-pub record AreReady (replicas : List (List RegReply)) (rows : List MarksView) : Type 0 where
-  pub ready : (key : Key) → is_ready replicas (get_or rows key.index no_marks) key ≡ true
+-- the register of a key is ready for what a majority of these replicas holds
+abbrev pub is_ready_at : List (List RegReply) → List MarksView → Key → Bool
+is_ready_at replicas rows key = is_ready replicas (get_or rows key.index no_marks) key
+
+-- so are the registers of these keys
+abbrev pub are_ready : List (List RegReply) → List MarksView → List Key → Bool
+are_ready replicas rows [] = true
+are_ready replicas rows (key ∷ keys) = is_ready_at replicas rows key && are_ready replicas rows keys
+
+-- what was ready stays so, for all keys
+pub record StayReady (replicas : List (List RegReply)) (old new : List MarksView) : Type 0 where
+  pub stays : (key : Key) → is_ready_at replicas old key ≡ true → is_ready_at replicas new key ≡ true

@@ -1,9 +1,10 @@
 //! The register services together.
 
 ghost use Rattle.std.specs.Prelude.{◌≡◌, ◌-◌, [], true, length, replicate, IfOk, OnOk};
-ghost use Rattle.rss_machine.specs.Marks.{first_mark};
+ghost use Rattle.rss_machine.specs.Marks.{first_mark, raised_by};
 ghost use Rattle.rss_machine.specs.State.{replicas_of_services, service_index};
 ghost use Rattle.rss_tables.specs.ReplicaRow.{replica_reply};
+ghost use Rattle.reg_world.specs.Rows.{have_room_at, rooms_of, has_room_for, marks_of};
 ghost use Rattle.reg_world.specs.Served.{cells_in, marks_in, served_by, noted_after};
 
 use crate::marks::Marks;
@@ -35,11 +36,11 @@ impl Drop for RegWorld {
 
 impl Model for RegWorld {
     ghost use Rattle.reg_world.specs.RegView.{RegView};
-    ghost use Rattle.reg_world.specs.Rows.{marks_of, have_room};
+    ghost use Rattle.reg_world.specs.Rows.{marks_of, rooms_of, have_room};
 
     ghost Value = { RegView };
 
-    ghost view = { λ w. record { replicas = w.services.items; marks = marks_of w.registers.items; room = have_room w.registers.items } };
+    ghost view = { λ w. record { replicas = w.services.items; marks = marks_of w.registers.items; rooms = rooms_of w.registers.items; room = have_room w.registers.items } };
 }
 
 impl RegWorld {
@@ -67,10 +68,20 @@ impl RegWorld {
         registers::make_room(&mut self.registers)
     }
 
-    /// A replica of a service serves a request in a step, and it is noted what a majority of the
-    /// service's replicas then holds of the registers on which the request may have raised a stamp.
-    /// Where there is no such service, replica or register, no replica changes, and the reply is that
-    /// of a replica that holds opening values. Takes no memory.
+    /// Makes room for one more mark of each register on which a request may raise a stamp; no other
+    /// register is looked at. An `Err` is want of memory.
+    #[tactic(auto, using(crate::proofs::Rooms::room_made))]
+    pub fn make_room_for(&mut self, r: &Request) -> Result<(), AllocError>
+        ensures replicas { self.new.replicas ≡ self.old.replicas }
+        ensures marks { self.new.marks ≡ self.old.marks }
+        ensures room { OnOk result (has_room_for self.new.rooms r.now ≡ true) }
+    {
+        registers::make_room_for(&mut self.registers, r)?;
+        Ok(())
+    }
+
+    /// The same as `serve`, where there is room for one more mark of each register.
+    #[tactic(auto, using(crate::proofs::Rooms::all_roomy))]
     pub fn handle(
         &mut self,
         service: ServiceId,
@@ -83,13 +94,35 @@ impl RegWorld {
         ensures serves { self.new.replicas ≡ served_by self.old.replicas service replica r.now }
         ensures notes { self.new.marks ≡ noted_after self.new.replicas service step r.now self.old.marks }
     {
-        let place = place_of(service);
-        if place >= self.services.len() {
-            return reply_of_none(r);
-        }
-        let reply = self.services[place].handle(replica, r);
-        registers::note_request(&mut self.registers, &self.services[place], r, step);
-        reply
+        serve_in(
+            &mut self.services,
+            &mut self.registers,
+            service,
+            replica,
+            r,
+            step,
+        )
+    }
+
+    /// A replica of a service serves a request in a step, and it is noted what a majority of the
+    /// service's replicas then holds of the registers on which the request may have raised a stamp.
+    /// Where there is no such service, replica or register, no replica changes, and the reply is that
+    /// of a replica that holds opening values. Takes no memory.
+    #[tactic(auto)]
+    pub fn serve(&mut self, service: ServiceId, replica: ReplicaId, r: &Request, step: u32) -> Reply
+        requires room { has_room_for self.old.rooms r.now ≡ true }
+        ensures replies { result ≡ replica_reply (cells_in self.old.replicas service replica) r.now }
+        ensures serves { self.new.replicas ≡ served_by self.old.replicas service replica r.now }
+        ensures notes { self.new.marks ≡ noted_after self.new.replicas service step r.now self.old.marks }
+    {
+        serve_in(
+            &mut self.services,
+            &mut self.registers,
+            service,
+            replica,
+            r,
+            step,
+        )
     }
 
     /// The step in which a majority of a register's replicas first held this stamp or a greater one,
@@ -103,6 +136,29 @@ impl RegWorld {
         }
         None
     }
+}
+
+// A replica of a service serves a request, and what a majority then holds is noted.
+fn serve_in(
+    services: &mut Vec<Service>,
+    registers: &mut Vec<Marks>,
+    service: ServiceId,
+    replica: ReplicaId,
+    r: &Request,
+    step: u32,
+) -> Reply
+    requires room { have_room_at (rooms_of registers.old.items) (raised_by r.now) ≡ true }
+    ensures replies { result ≡ replica_reply (cells_in services.old.items service replica) r.now }
+    ensures serves { services.new.items ≡ served_by services.old.items service replica r.now }
+    ensures notes { marks_of registers.new.items ≡ noted_after services.new.items service step r.now (marks_of registers.old.items) }
+{
+    let place = place_of(service);
+    if place >= services.len() {
+        return reply_of_none(r);
+    }
+    let reply = services[place].handle(replica, r);
+    registers::note_request(registers, &services[place], r, step);
+    reply
 }
 
 // The place of a register service among the services; that of a transaction service is behind all.

@@ -1,0 +1,2 @@
+pub mod StoresView
+pub mod Serving
