@@ -1,0 +1,5 @@
+pub mod Again
+pub mod Counts
+pub mod Ready
+pub mod Rows
+pub mod Sent
