@@ -1,0 +1,5 @@
+pub mod Placing
+pub mod Turned
+pub mod Onward
+pub mod Counts
+pub mod Lines
