@@ -1,11 +1,5 @@
-pub mod Tables
 pub mod Plays
 pub mod OneWord
 pub mod Sums
-pub mod Joins
-pub mod Turned
-pub mod Counts
-pub mod Placing
-pub mod Stages
 pub mod Promised
 pub mod Answered

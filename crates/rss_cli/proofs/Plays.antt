@@ -1,9 +1,6 @@
 -- Lists of steps that a World makes one after another.
-use Rattle.std.proofs.Common.{◌≡◌, ℕ, Bool, true, ◌+◌, ◌<◌, ◌≤◌, List, [], ◌∷◌, ◌++◌, length, take, drop, get_or, Some, refl, ap, ◌∙◌, arith}
+use Rattle.std.proofs.Common.{◌≡◌, ℕ, ◌+◌, ◌<◌, ◌≤◌, List, [], ◌∷◌, ◌++◌, length, take, drop, get_or, Some, refl, ap, ◌∙◌, arith}
 use Rattle.std.proofs.lemmas.Grind.{common_steps}
-use Rattle.std.proofs.lemmas.Bool.{and_parts}
-use Rattle.std.specs.List.{list_all}
-use Rattle.world_laws.specs.Numbered.{are_numbered}
 use Rattle.pipeline_lang.specs.declared.config.Config.{Config}
 use Rattle.truetime.specs.Reading.{AreConsistent}
 use Rattle.rss_machine.specs.Built.{built_refusal}
@@ -12,7 +9,7 @@ use Rattle.rss_machine.specs.declared.step.Step.{Step}
 use Rattle.rss_machine.specs.declared.step.Logged.{Logged}
 use Rattle.rss_machine.specs.declared.step.StepRefusal.{StepRefusal}
 use Rattle.event_world.specs.World.{WorldView}
-use Rattle.rss_cli.specs.Played.{replayed, HasPlayed, IsFirstRefused, are_built}
+use Rattle.rss_cli.specs.Played.{replayed, HasPlayed, IsFirstRefused}
 
 -- the steps of a replayed list are that list
 steps_replayed : (steps : List Step) → steps_of (replayed steps) ≡ steps
@@ -47,21 +44,9 @@ first_refused c steps i step w cause inside at same log runs refused = record {
   refused = rw (← same) refused;
 }
 
--- what is true of all steps so far and of one more
-all_behind : (p : Step → Bool) (steps : List Step) (step : Step) → list_all p steps ≡ true → p step ≡ true → list_all p (steps ++ step ∷ []) ≡ true
-all_behind p [] step h e = rw e refl
-all_behind p (first ∷ steps) step h e =
-    let q = and_parts (p first) (list_all p steps) h in
-    rw q.0 (all_behind p steps step q.1 e)
-
-pub all_more : (p : Step → Bool) (steps : List Step) (i : ℕ) (step : Step) → i < length steps → step ≡ get_or steps i step → list_all p (take i steps) ≡ true → p step ≡ true → list_all p (take (i + 1) steps) ≡ true
-all_more p steps i step inside at h e =
-    let more : take (i + 1) steps ≡ take i steps ++ step ∷ [] = grind (arith, common_steps) in
-    rw more (all_behind p (take i steps) step h e)
-
 -- all steps are made
-pub all_played : (c : Config) (steps : List Step) (n : ℕ) (w : WorldView) → length steps ≤ n → w.config ≡ c → w.log ≡ replayed (take n steps) → run w.config (steps_of w.log) ≡ Some w.state → AreConsistent (readings_of (steps_of w.log)) → are_numbered (take n steps) ≡ true → are_built (take n steps) ≡ true → HasPlayed c steps w
-all_played c steps n w end same log runs consistent numbered built =
+pub all_played : (c : Config) (steps : List Step) (n : ℕ) (w : WorldView) → length steps ≤ n → w.config ≡ c → w.log ≡ replayed (take n steps) → run w.config (steps_of w.log) ≡ Some w.state → AreConsistent (readings_of (steps_of w.log)) → HasPlayed c steps w
+all_played c steps n w end same log runs consistent =
     let whole : take n steps ≡ steps = grind (arith, common_steps) in
     let all : w.log ≡ replayed steps = log ∙ ap replayed whole in
     let made : steps_of w.log ≡ steps = ap steps_of all ∙ steps_replayed steps in
@@ -69,6 +54,4 @@ all_played c steps n w end same log runs consistent numbered built =
       config = same;
       log = all;
       run = record { runs = rw (← same, ← made) runs; consistent = rw (← made) consistent };
-      numbered = rw (← whole) numbered;
-      built = rw (← whole) built;
     }

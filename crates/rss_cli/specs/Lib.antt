@@ -3,5 +3,4 @@ pub mod FaultText
 pub mod Split
 pub mod Played
 pub mod Reported
-pub mod Pieces
 pub mod Answer

@@ -1,11 +1,9 @@
 -- What becomes of a list of steps that are made one after another.
-use Rattle.std.specs.Prelude.{ℕ, ◌≡◌, ◌+◌, Bool, true, List, [], ◌∷◌, ◌++◌, length, Some}
-use Rattle.std.specs.List.{list_all}
+use Rattle.std.specs.Prelude.{ℕ, ◌≡◌, ◌+◌, List, [], ◌∷◌, ◌++◌, length, Some}
 use Rattle.pipeline_lang.specs.declared.config.Config.{Config}
 use Rattle.truetime.specs.Reading.{AreConsistent}
-use Rattle.world_laws.specs.Numbered.{are_numbered}
 use Rattle.rss_machine.specs.State.{State}
-use Rattle.rss_machine.specs.Built.{built_refusal, is_built_step}
+use Rattle.rss_machine.specs.Built.{built_refusal}
 use Rattle.rss_machine.specs.Run.{run, readings_of}
 use Rattle.rss_machine.specs.declared.step.Step.{Step}
 use Rattle.rss_machine.specs.declared.step.Logged.{Logged}
@@ -24,17 +22,11 @@ pub record IsRun (c : Config) (steps : List Step) (s : State) : Type 0 where
   pub runs : run c steps ≡ Some s
   pub consistent : AreConsistent (readings_of steps)
 
--- steps of kinds that run
-abbrev pub are_built : List Step → Bool
-are_built steps = list_all (λ (step : Step). is_built_step step.kind) steps
-
--- a World that has made all these steps, and no other; each names its stage by its number from 1
+-- a World that has made all these steps, and no other
 pub record HasPlayed (c : Config) (steps : List Step) (w : WorldView) : Type 0 where
   pub config : w.config ≡ c
   pub log : w.log ≡ replayed steps
   pub run : IsRun c steps w.state
-  pub numbered : are_numbered steps ≡ true
-  pub built : are_built steps ≡ true
 
 -- the step of this number, counted from 1, is the first one that is refused, for this cause
 pub record IsFirstRefused (c : Config) (steps : List Step) (number : ℕ) (cause : StepRefusal) : Type 0 where

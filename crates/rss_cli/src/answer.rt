@@ -1,18 +1,18 @@
 //! Answers: the text and the status for an input, all made before the first byte is written.
 
-ghost use Rattle.std.specs.Prelude.{◌≡◌, ◌≤◌, true, false, IfOk, length};
+ghost use Rattle.std.specs.Prelude.{◌≡◌, ◌≤◌, true, false, IfOk, length, All};
 ghost use Rattle.rss_machine.specs.Built.{is_built};
 ghost use Rattle.rss_machine.specs.Endings.{ending_of};
 ghost use Rattle.rss_cli.specs.Answer.{IsRead, IsReplayed, IsPlayed, IsStepsAnswer, IsFileAnswer, IsConfigAnswer, IsNotBuilt, steps_limit, input_limit, is_answer};
 ghost use Rattle.rss_cli.specs.FaultText.{fault_text};
 ghost use Rattle.rss_cli.specs.Reported.{IsReport};
 ghost use Rattle.rss_cli.specs.Statuses.{status_of};
+ghost use Rattle.step_text.specs.Spelling.{IsStep};
 ghost use Rattle.world_laws.specs.Shapes.{IsSoundFile};
 
 use crate::fault::Fault;
 use crate::fault_lines::fault_line;
 use crate::play::{PlayError, play};
-use crate::reporting::report;
 use crate::served::served;
 use crate::split::split;
 use crate::status::Status;
@@ -22,6 +22,7 @@ use pipeline_lang::Config;
 use rss_machine::Step;
 use std::alloc::{AllocError, Global};
 use step_text::{StepTextError, read_steps};
+use world_report::report;
 
 /// The longest step text, in bytes.
 const LONGEST_STEPS: usize = 16_777_216;
@@ -117,6 +118,7 @@ fn steps_answer(alloc: Global, config: Config, behind: &[u8]) -> Result<Answer, 
 fn played(alloc: Global, config: Config, steps: &[Step]) -> Result<Answer, AllocError>
     requires built { is_built config ≡ true }
     requires sound { IsSoundFile config }
+    requires grammar { All IsStep steps.now }
     ensures answer { IfOk result (λ a. IsPlayed config steps.now a.text.items a.status) }
     ensures status { IfOk result (λ a. is_answer a.status ≡ true) }
 {

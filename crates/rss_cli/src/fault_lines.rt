@@ -4,8 +4,8 @@ ghost use Rattle.std.specs.Prelude.{◌≡◌, ◌++◌, OnOk, IfOk};
 ghost use Rattle.rss_cli.specs.FaultText.{file_text, net_text, refusal_text, fault_text};
 
 use crate::fault::Fault;
-use crate::text::{put, put_number};
 use pipeline_file::FileFault;
+use report_lines::{put, put_number};
 use rss_machine::StepRefusal;
 use rss_wire::NetRefusal;
 use std::alloc::{AllocError, Global};

@@ -9,7 +9,6 @@ use pipeline_lang::Config;
 use rss_machine::{Step, StepRefusal};
 use std::alloc::{AllocError, Global};
 use thiserror::Error;
-use token_laws::step_names_its_stage;
 
 /// Why not all steps were made.
 #[derive(Clone, Copy, Debug, PartialEq, Eq, Error)]
@@ -44,7 +43,6 @@ pub fn play(alloc: Global, config: Config, steps: &[Step]) -> Result<World, Play
             Err(_) => return Err(PlayError::OutOfMemory),
         }
         let _log = world.log();
-        step_names_its_stage(step.kind);
         match world.step(step, 0) {
             Ok(()) => {}
             Err(cause) => {

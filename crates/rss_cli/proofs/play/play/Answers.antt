@@ -1,10 +1,6 @@
 -- Each step is made or refused behind the steps before it.
 use Rattle.std.proofs.Common.{◌∙◌}
-use Rattle.rss_machine.specs.Built.{is_built_step}
-use Rattle.rss_machine.specs.declared.step.Step.{Step}
-use Rattle.world_laws.specs.Numbered.{is_numbered}
-use Rattle.event_world.proofs.Allowed.{allowed_parts}
-use Rattle.rss_cli.proofs.Plays.{log_more, first_refused, all_more, all_played}
+use Rattle.rss_cli.proofs.Plays.{log_more, first_refused, all_played}
 use Rattle.rss_cli.proofs.play.play.Goals as goal
 
 pub returns-in-Err-step-clause-refused : goal.returns-in-Err-step-clause-refused
@@ -20,12 +16,9 @@ loop-before-preserved c =
       made.config ∙ c.make_room.ensures.same.config ∙ c.loop-before.invariant.0,
       log_more c.args.steps.now c.loop-before.before c.index-steps-before.result c.make_room.new.self.log c.step.new.self.log
           c.loop-before-test.true c.index-steps-before.is (c.make_room.ensures.same.log ∙ c.loop-before.invariant.1) made.log,
-      all_more (λ (step : Step). is_numbered step.kind) c.args.steps.now c.loop-before.before c.index-steps-before.result c.loop-before-test.true c.index-steps-before.is c.loop-before.invariant.2 c.step_names_its_stage.ensures,
-      all_more (λ (step : Step). is_built_step step.kind) c.args.steps.now c.loop-before.before c.index-steps-before.result c.loop-before-test.true c.index-steps-before.is c.loop-before.invariant.3
-          (allowed_parts c.make_room.new.self.config c.make_room.new.self.state c.index-steps-before.result c.in-Ok-step.ensures.allowed).built,
     )
 
 pub returns-clause-played : goal.returns-clause-played
 returns-clause-played c =
     all_played c.args.config c.args.steps.now c.loop-before.before c.loop-before.world c.loop-before-test.false
-    c.loop-before.invariant.0 c.loop-before.invariant.1 c.log-log-2.ensures.replays c.log-log-2.ensures.consistent c.loop-before.invariant.2 c.loop-before.invariant.3
+    c.loop-before.invariant.0 c.loop-before.invariant.1 c.log-log-2.ensures.replays c.log-log-2.ensures.consistent

@@ -1,8 +1,0 @@
-use Rattle.std.proofs.Common.{◌≡◌, ◌++◌, [], drop}
-use Rattle.rss_machine.specs.ReportText.{service_lines}
-use Rattle.rss_cli.proofs.service_lines.put_services.Given as goal
-
-abbrev pub invariant-loop-service : goal.invariant-loop-service
-invariant-loop-service l =
-    l.fn.out.items ++ service_lines l.w.config.services [] l.w.state.planned
-    ≡ l.out.items ++ service_lines (drop l.service-index l.services) [] l.w.state.planned
