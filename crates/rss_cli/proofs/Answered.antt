@@ -19,7 +19,7 @@ use Rattle.rss_cli.specs.declared.status.Status.{Status}
 use Rattle.rss_cli.proofs.Promised.{keeps_promise}
 
 -- the state of an option, if it has one
-held : Option State → State → State
+abbrev held : Option State → State → State
 held (Some s) other = s
 held None other = other
 
