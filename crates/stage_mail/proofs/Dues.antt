@@ -3,8 +3,7 @@ use Rattle.std.proofs.Common.{◌≡◌, ℕ, suc, zero, ◌+◌, ◌<◌, ◌�
 use Rattle.rss_wire.specs.declared.message.Message.{Message}
 use Rattle.rss_machine.specs.Turns.{is_due, due_message}
 use Rattle.stage_mail.specs.Due.{due_from}
-use Rattle.stage_mail.specs.Lists.{rises_from, without, first_of}
-use Rattle.stage_mail.proofs.Taking.{itself}
+use Rattle.stage_mail.proofs.Rising.{itself, without, first_of}
 
 -- a message that is sent to the stage comes last
 pub due-added : (n at : ℕ) (ms : List Message) (m : Message) → is_due n m ≡ true → due_from n at (ms ++ m ∷ []) ≡ due_from n at ms ++ (at + length ms) ∷ []
@@ -52,18 +51,6 @@ due-kept n at (x ∷ ms) (suc i) m d h = go (is_due n x) refl (due-kept n (suc a
     go : (b : Bool) → is_due n x ≡ b → due_from n (suc at) (set ms i m) ≡ due_from n (suc at) ms → due_from n at (set (x ∷ ms) (suc i) m) ≡ due_from n at (x ∷ ms)
     go true e ih = rw e (ap (λ (l : List ℕ). at ∷ l) ih)
     go false e ih = rw e ih
-
-le-true : (a b : ℕ) → a ≤ b → nat_le a b ≡ true
-le-true a b h = grind (arith, h)
-
--- the numbers ascend
-pub due-rises : (n at least : ℕ) (ms : List Message) → least ≤ at → rises_from least (due_from n at ms) ≡ true
-due-rises n at least [] h = refl
-due-rises n at least (x ∷ ms) h = go (is_due n x) refl (due-rises n (suc at) (suc at) ms (omega arith)) (due-rises n (suc at) least ms (omega (arith, h)))
-  where
-    go : (b : Bool) → is_due n x ≡ b → rises_from (suc at) (due_from n (suc at) ms) ≡ true → rises_from least (due_from n (suc at) ms) ≡ true → rises_from least (due_from n at (x ∷ ms)) ≡ true
-    go true e above rest = rw (e, le-true least at h) above
-    go false e above rest = rw e rest
 
 -- where none is to come
 pub due-none : (n at : ℕ) (ms : List Message) → first_of (due_from n at ms) ≡ None → due_message n ms ≡ None

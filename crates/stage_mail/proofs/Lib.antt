@@ -1,4 +1,6 @@
+pub mod Rising
 pub mod Dues
+pub mod Linking
+pub mod Pending
 pub mod Keeping
-pub mod Places
-pub mod Taking
+pub mod Mailing

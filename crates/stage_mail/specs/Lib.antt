@@ -1,3 +1,3 @@
 pub mod Due
-pub mod Lists
+pub mod Chains
 pub mod Kept

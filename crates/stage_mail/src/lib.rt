@@ -1,8 +1,7 @@
-//! Code: the net with each stage's messages that are still to come in a list of their own.
+//! Code: the net with each stage's messages that are still to come in a queue of their own.
 #![tactic(auto)]
 
-mod lists;
+mod chains;
 mod mail;
-mod numbers;
 
 pub use mail::Mail;

@@ -6,17 +6,17 @@ ghost use Rattle.rss_wire.specs.Messages.{no_messages, asks, answers, delivers, 
 ghost use Rattle.rss_wire.specs.Net.{deliver_refusal, lose_refusal, again_refusal};
 ghost use Rattle.rss_machine.specs.Turns.{due_message};
 
-use crate::lists::{self, Lists};
+use crate::chains::{self, Chains};
 use rss_names::{StageId, Target};
 use rss_wire::{Envelope, Net, NetRefusal, Reply, Request};
 use std::alloc::{AllocError, Global};
 use std::marker::Model;
 
-/// The net, with a list for each stage of its messages that are still to come. Contracts see the net
-/// alone. No call goes through all messages.
+/// The net, with a queue for each stage that has all of its messages that are still to come. Contracts
+/// see the net alone. No call goes through all messages: a queue passes by each message once.
 pub struct Mail {
     net: Net,
-    due: Lists,
+    due: Chains,
 }
 
 impl Drop for Mail {
@@ -41,23 +41,25 @@ impl Model for Mail {
 
 impl Mail {
     /// A net on which nothing was sent, without room.
+    #[tactic(auto, using(crate::proofs::Mailing::keeping))]
     pub fn new(alloc: Global) -> Mail
         ensures empty { result.messages ≡ no_messages }
         ensures room { result.room ≡ 0 }
     {
         Mail {
             net: Net::new(alloc),
-            due: lists::opening(alloc),
+            due: chains::opening(alloc),
         }
     }
 
     /// Makes room for at least `n` more messages. An `Err` is want of memory.
+    #[tactic(auto, using(crate::proofs::Mailing::keeping))]
     pub fn make_room(&mut self, n: usize) -> Result<(), AllocError>
         ensures same { self.new.messages ≡ self.old.messages }
         ensures room { OnOk result (self.new.room ≡ max self.old.room n) }
         ensures unchanged { OnErr result (self.new ≡ self.old) }
     {
-        lists::make_room(&mut self.due, n)?;
+        self.due.next.reserve(n)?;
         self.net.make_room(n)?;
         Ok(())
     }
@@ -81,10 +83,11 @@ impl Mail {
     pub fn due(&self, stage: StageId) -> Option<Envelope>
         ensures { result ≡ due_message stage self.now.messages }
     {
-        match lists::first(&self.due, lists::place_of(stage)) {
-            Some(number) => self.net.envelope(number).copied(),
-            None => None,
+        let number = self.due.head(chains::place_of(stage));
+        if number == 0 {
+            return None;
         }
+        self.net.envelope(number).copied()
     }
 
     /// Sends a request of the owner and stage to the target, and gives its number. Uses up one place
@@ -97,7 +100,7 @@ impl Mail {
         ensures room { self.new.room + 1 ≡ self.old.room }
     {
         let number = self.net.ask(owner, stage, target, body);
-        lists::add(&mut self.due, lists::place_of(stage), number);
+        self.due.add(chains::place_of(stage), number);
         number
     }
 
@@ -113,7 +116,7 @@ impl Mail {
     {
         let place = place_of(&self.net, exchange);
         let number = self.net.answer(exchange, body);
-        lists::add(&mut self.due, place, number);
+        self.due.add(place, number);
         number
     }
 
@@ -170,7 +173,8 @@ impl Mail {
     {
         self.net.deliver(number)?;
         let place = place_of(&self.net, number);
-        lists::take(&mut self.due, place, number);
+        let head = chains::first_due(&self.net, &self.due, place);
+        self.due.set_head(place, head);
         Ok(())
     }
 
@@ -185,7 +189,8 @@ impl Mail {
     {
         self.net.lose(number)?;
         let place = place_of(&self.net, number);
-        lists::take(&mut self.due, place, number);
+        let head = chains::first_due(&self.net, &self.due, place);
+        self.due.set_head(place, head);
         Ok(())
     }
 
@@ -203,12 +208,12 @@ impl Mail {
     }
 }
 
-/// The place of the list of a sent message's stage.
+/// The place of a sent message's stage.
 fn place_of(net: &Net, number: u32) -> usize
     requires sent { is_sent net.now.messages number ≡ true }
     ensures place { result + 1 ≡ (message_at net.now.messages number).envelope.stage }
     ensures within { result < 16 }
 {
     let envelope = net.envelope(number).unwrap();
-    lists::place_of(envelope.stage)
+    chains::place_of(envelope.stage)
 }

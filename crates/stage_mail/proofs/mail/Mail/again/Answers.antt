@@ -1,6 +1,6 @@
 use Rattle.std.proofs.Common.{refl}
 use Rattle.rss_wire.specs.declared.message.Fate.TheVariants.{Repeated}
-use Rattle.stage_mail.proofs.Keeping.{repeated-kept}
+use Rattle.stage_mail.proofs.Mailing.{repeated-kept}
 use Rattle.stage_mail.proofs.mail.Mail.again.Goals as goal
 
 pub invariant_of-self-2 : goal.invariant_of-self-2

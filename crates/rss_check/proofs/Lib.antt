@@ -1,0 +1,9 @@
+pub mod Found
+pub mod Placed
+pub mod Tables
+pub mod TopsRight
+pub mod Bad
+pub mod Caused
+pub mod InTime
+pub mod Steps
+pub mod Judged

@@ -1,0 +1,17 @@
+pub mod Allowed
+pub mod Beginning
+pub mod Comes
+pub mod Copies
+pub mod Dying
+pub mod Endings
+pub mod Lists
+pub mod Makes
+pub mod Serves
+pub mod Settled
+pub mod Turned
+pub mod Enabled
+pub mod Sent
+pub mod Coming
+pub mod Losing
+pub mod Counted
+pub mod Doing
