@@ -46,7 +46,7 @@ use Rattle.rss_machine.specs.declared.turn.Enabling.TheVariants.{Never, Always, 
 use Rattle.std.proofs.lemmas.List.{drop_more, drop_all}
 use Rattle.owner_turns.specs.declared.reading.OwnerEnabling.{OwnerEnabling}
 use Rattle.owner_turns.specs.declared.reading.OwnerEnabling.TheVariants as enabled
-use Rattle.owner_turns.specs.Asked.{after_or, session_enabling_in, enabling_in, stub_enabling_in, unless_started, enabling_as, awaited_holder, awaited_in, time_at, EnablingIsTold, StubEnablingIsTold}
+use Rattle.owner_turns.specs.Asked.{attempt_under, is_read_under, after_or, session_enabling_in, enabling_in, stub_enabling_in, unless_started, enabling_as, awaited_holder, awaited_in, time_at, EnablingIsTold, StubEnablingIsTold}
 
 by_kind : (P : Session → Type 0) → P session.Idle → ((attempt : Attempt) (shards : List ℕ) → P (session.Settling attempt shards)) → (k : OwnerKind) → P (settling_in k)
 by_kind P i s (kind.Stubbing (Some unsettled)) = s unsettled.0 unsettled.1
@@ -106,6 +106,16 @@ pub no_stamp : (stored : Bool) (k : OwnerKind) → session_stamp (settling_in k)
 no_stamp stored k = by_kind (λ x. session_stamp x stored ≡ None) refl (λ a b. refl) k
 
 pub ruleset no_stamps = (no_stamp)
+
+pub no_attempt : (k : OwnerKind) → attempt_under (settling_in k) ≡ None
+no_attempt k = by_kind (λ x. attempt_under x ≡ None) refl (λ a b. refl) k
+
+pub no_read : (k : OwnerKind) → is_read_under (settling_in k) ≡ false
+no_read k = by_kind (λ x. is_read_under x ≡ false) refl (λ a b. refl) k
+
+pub ruleset no_attempts = (no_attempt)
+
+pub ruleset no_reads = (no_read)
 
 txn_told : (s : State) (lines : List Line) (wait : Option ℕ) → txn_enabling s wait lines ≡ enabling_as s lines (after_or wait enabled.Lines)
 txn_told s lines None = refl

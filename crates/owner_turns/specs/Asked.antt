@@ -1,13 +1,13 @@
 -- What others ask of an owner: when it goes on by itself, what it waits for, where it is placed.
-use Rattle.std.specs.Prelude.{◌≡◌, ℕ, Bool, true, false, List, [], ◌∷◌, Option, Some, None, if◌then◌else◌}
+use Rattle.std.specs.Prelude.{◌≡◌, ℕ, ◌==◌, Bool, true, false, List, [], ◌∷◌, length, get_or, Option, Some, None, if◌then◌else◌}
 use Rattle.std.specs.List.{list_any}
 use Rattle.rss_names.specs.declared.attempt.Attempt.{Attempt}
 use Rattle.rss_wire.specs.declared.messages.Holder.{Holder}
-use Rattle.rss_tables.specs.Lines.{Line, asleep_on}
+use Rattle.rss_tables.specs.Lines.{Line, asleep_on, no_line}
 use Rattle.rss_tables.specs.SnapshotSession.{snap_end}
-use Rattle.rss_tables.specs.TransactionSession.{waiting_time}
+use Rattle.rss_tables.specs.TransactionSession.{waiting_time, attempt_of}
 use Rattle.rss_machine.specs.Enabling.{can_wake, whether, owner_enabling, stub_waits}
-use Rattle.rss_machine.specs.Places.{first_time, failed_time}
+use Rattle.rss_machine.specs.Places.{first_time, failed_time, is_read_work}
 use Rattle.rss_machine.specs.Session.{Session}
 use Rattle.rss_machine.specs.Standing.{is_running}
 use Rattle.rss_machine.specs.State.{State, Owner}
@@ -67,6 +67,27 @@ time_at decided session.Idle = None
 time_at decided (session.Fixing r) = None
 time_at decided (session.Register r) = None
 time_at decided (session.Settling attempt shards) = None
+
+-- the present attempt of a transaction, with the shard of its first line
+abbrev pub holder_of : List Line → Attempt → Option Holder
+holder_of lines a = if length lines == 0 then None else Some record { attempt = a; coordinator = (get_or lines 0 no_line).shard }
+
+abbrev pub attempt_under : Session → Option Holder
+attempt_under (session.Transaction t) = holder_of t.lines (attempt_of t)
+attempt_under (session.Snapshot t) = None
+attempt_under session.Idle = None
+attempt_under (session.Fixing r) = None
+attempt_under (session.Register r) = None
+attempt_under (session.Settling attempt shards) = None
+
+-- whether the rounds of a call under way read a register
+abbrev pub is_read_under : Session → Bool
+is_read_under (session.Register r) = is_read_work r.work
+is_read_under (session.Transaction t) = false
+is_read_under (session.Snapshot t) = false
+is_read_under session.Idle = false
+is_read_under (session.Fixing r) = false
+is_read_under (session.Settling attempt shards) = false
 
 -- what the answers say in the tables' words
 abbrev pub EnablingIsTold : Type 0

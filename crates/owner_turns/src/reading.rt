@@ -2,14 +2,14 @@
 
 ghost use Rattle.std.specs.Prelude.{◌≡◌, ◌+◌, ◌<◌, ◌≤◌, length, get_or};
 ghost use Rattle.rss_tables.specs.Lines.{no_line, asleep_on as sleeps_on};
-ghost use Rattle.rss_machine.specs.Places.{session_stamp, work_stamp, keyed_stamp, phase_stamp as stamp_of_phase};
+ghost use Rattle.rss_machine.specs.Places.{is_read_work, session_stamp, work_stamp, keyed_stamp, phase_stamp as stamp_of_phase};
 ghost use Rattle.rss_machine.specs.Standing.{is_running};
 ghost use Rattle.turn_laws.specs.Turns.{lines_in};
-ghost use Rattle.owner_turns.specs.Asked.{enabling_in, session_enabling_in, stub_enabling_in, awaited_in, time_at, EnablingIsTold, StubEnablingIsTold};
+ghost use Rattle.owner_turns.specs.Asked.{attempt_under, is_read_under, enabling_in, session_enabling_in, stub_enabling_in, awaited_in, time_at, EnablingIsTold, StubEnablingIsTold};
 
 use crate::owner::Owner;
 use carstamps::Carstamp;
-use owner_sessions::Doing;
+use owner_sessions::{Doing, txn};
 use rss_machine::OwnerFate;
 use rss_names::{Attempt, Key};
 use rss_tables::{RegEnd, RegPhase, RegWork};
@@ -155,6 +155,45 @@ impl Owner {
         }
     }
 
+    /// The present attempt of its transaction, with the shard that coordinates it; `None` where no
+    /// transaction is under way.
+    #[tactic(auto, using(crate::proofs::Answered::no_attempts))]
+    pub fn attempt(&self) -> Option<Holder>
+        ensures { result ≡ attempt_under self.now.row.session }
+    {
+        match &self.doing {
+            Doing::Transaction(called, session) => {
+                if session.len() == 0 {
+                    return None;
+                }
+                Some(Holder {
+                    attempt: session.attempt(&txn(&self.kind, *called)),
+                    coordinator: session.shard(0),
+                })
+            }
+            Doing::Snapshot(_, _) => None,
+            Doing::Idle => None,
+            Doing::Fixing(_) => None,
+            Doing::Register(_) => None,
+            Doing::Settling => None,
+        }
+    }
+
+    /// Whether the rounds of its call read a register.
+    #[tactic(auto, using(crate::proofs::Answered::no_reads))]
+    pub fn is_read(&self) -> bool
+        ensures { result ≡ is_read_under self.now.row.session }
+    {
+        match &self.doing {
+            Doing::Register(rounds) => is_read(rounds.work()),
+            Doing::Transaction(_, _) => false,
+            Doing::Snapshot(_, _) => false,
+            Doing::Idle => false,
+            Doing::Fixing(_) => false,
+            Doing::Settling => false,
+        }
+    }
+
     /// The register and stamp of a register call: of a write once its store was handled, of a read once it
     /// has ended.
     #[tactic(auto, using(crate::proofs::Answered::no_stamps))]
@@ -169,6 +208,17 @@ impl Owner {
             Doing::Snapshot(_, _) => None,
             Doing::Settling => None,
         }
+    }
+}
+
+// Whether a work reads a register.
+fn is_read(work: &RegWork) -> bool
+    ensures { result ≡ is_read_work work.now }
+{
+    match work {
+        RegWork::Read(_) => true,
+        RegWork::Write(_, _) => false,
+        RegWork::Fix(_) => false,
     }
 }
 

@@ -1,0 +1,5 @@
+pub mod Small
+pub mod Operations
+pub mod Slots
+pub mod Stubs
+pub mod Facts
