@@ -1,0 +1,17 @@
+pub mod Acts
+pub mod Acting
+pub mod Beginning
+pub mod Clock
+pub mod Dying
+pub mod Ending
+pub mod Hearing
+pub mod Losing
+pub mod Machine
+pub mod Ready
+pub mod Rooms
+pub mod Serving
+pub mod Statements
+pub mod Asking
+pub mod Steps
+pub mod StepRooms
+pub mod Turning
