@@ -12,7 +12,7 @@ ghost use Rattle.world_parts.specs.Parts.{stage_in};
 ghost use Rattle.world_stages.specs.Readies.{IsReady};
 ghost use Rattle.world_traffic.specs.View.{IsQuiet};
 
-use crate::copies::{copy_of, behind_fence};
+use crate::copies::{behind_fence, copy_of};
 use causal_context::Context;
 use pipeline_lang::Expr;
 use rss_model::Op;
@@ -46,7 +46,8 @@ pub(crate) fn make_room_to_fence(
     let context = behind_fence(machine.alloc, &copy, &copy)?;
     machine.staging.ready_copies(&context, 0, 1)?;
     let step = machine.clock.steps + 1;
-    machine.traffic
+    machine
+        .traffic
         .prepare_fence(&machine.config, stage, copy, plan, step, at)?;
     Ok(())
 }
@@ -80,7 +81,8 @@ pub(crate) fn make_room_to_call(
     let twin = op.try_clone(machine.alloc)?;
     machine.staging.ready_own(stage, 1, 1)?;
     let step = machine.clock.steps + 1;
-    machine.traffic
+    machine
+        .traffic
         .prepare_call(&machine.config, stage, twin, copy, plan, step, at)?;
     machine.op = Some(op);
     Ok(())

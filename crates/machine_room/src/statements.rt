@@ -101,7 +101,9 @@ pub(crate) fn make_room_alone(machine: &mut Machine, stage: StageId) -> Result<(
     ensures others { machine.new ≡ record machine.old { staging = machine.new.staging } }
 {
     let nothing = Context::empty(machine.alloc);
-    machine.staging.make_room_for(&machine.config, stage, &nothing)
+    machine
+        .staging
+        .make_room_for(&machine.config, stage, &nothing)
 }
 
 // What a statement needs.

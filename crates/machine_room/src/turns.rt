@@ -11,7 +11,7 @@ ghost use Rattle.world_laws.specs.Calls.{is_call, is_stub};
 ghost use Rattle.world_parts.specs.Parts.{owner_in, stage_in};
 ghost use Rattle.world_traffic.specs.View.{HasTurnRoom, IsBegun, IsQuiet};
 
-use crate::copies::{copy_of, settles, calls, behind_fence};
+use crate::copies::{behind_fence, calls, copy_of, settles};
 use causal_context::Context;
 use std::alloc::AllocError;
 use truetime::Interval;
@@ -86,7 +86,11 @@ fn make_room_to_end(machine: &mut Machine, number: u32) -> Result<(), AllocError
 
 /// Makes room for a turn of an owner by itself in the next step, and for its end. An `Err` is want of
 /// memory.
-pub(crate) fn make_room_for_turn(machine: &mut Machine, number: u32, at: Interval) -> Result<(), AllocError>
+pub(crate) fn make_room_for_turn(
+    machine: &mut Machine,
+    number: u32,
+    at: Interval,
+) -> Result<(), AllocError>
     requires begun { IsBegun machine.old.traffic.traffic number }
     requires there { owner_in machine.old.traffic.traffic number ≡ no_owner → ⊥ }
     requires homes { HomesFit machine.old.config (owner_in machine.old.traffic.traffic number).kind }
@@ -103,7 +107,8 @@ pub(crate) fn make_room_for_turn(machine: &mut Machine, number: u32, at: Interva
     ensures others { machine.new ≡ record machine.old { staging = machine.new.staging; traffic = machine.new.traffic } }
 {
     let step = machine.clock.steps + 1;
-    machine.traffic
+    machine
+        .traffic
         .make_room_to_act(&machine.config, number, step, at)?;
     make_room_to_end(machine, number)
 }
@@ -133,7 +138,8 @@ pub(crate) fn make_room_for_reply(
     ensures others { machine.new ≡ record machine.old { staging = machine.new.staging; traffic = machine.new.traffic } }
 {
     let step = machine.clock.steps + 1;
-    machine.traffic
+    machine
+        .traffic
         .make_room_to_hear(&machine.config, number, step, at, message)?;
     make_room_to_end(machine, number)
 }
