@@ -3,7 +3,6 @@ use Rattle.std.specs.Prelude.{ℕ, ◌≡◌, ◌≢◌, ◌<◌, ◌≤◌, ◌
 use Rattle.std.specs.Io.KnownBytes.{Appends, Keeps}
 use Rattle.rss_io.specs.Pieces.{AppendsFront}
 use Rattle.pipeline_lang.specs.declared.config.Config.{Config}
-use Rattle.rss_machine.specs.Built.{is_built}
 use Rattle.rss_machine.specs.Endings.{ending_of}
 use Rattle.rss_machine.specs.Headline.{KeepsPromise}
 use Rattle.rss_machine.specs.declared.step.Step.{Step}
@@ -59,26 +58,11 @@ pub record IsOffGrammar (behind text : List ℕ) (status : Status) : Type 0 wher
 abbrev pub IsStepsAnswer : Config → List ℕ → List ℕ → Status → Type 0
 IsStepsAnswer c behind text status = IsSpelled c behind text status ⊎ IsOffGrammar behind text status
 
--- the file is one that runs
-pub record IsBuiltFile (config : Config) (behind text : List ℕ) (status : Status) : Type 0 where
-  pub built : is_built config ≡ true
-  pub answer : IsStepsAnswer config behind text status
-
--- the file is valid, and does not run yet
-pub record IsNotBuilt (config : Config) (text : List ℕ) (status : Status) : Type 0 where
-  pub not_built : is_built config ≡ false
-  pub told : text ≡ fault_text fault.NotBuilt
-  pub status_is : status ≡ File
-
--- the answer to a configuration and the step text behind it
-abbrev pub IsConfigAnswer : Config → List ℕ → List ℕ → Status → Type 0
-IsConfigAnswer config behind text status = IsBuiltFile config behind text status ⊎ IsNotBuilt config text status
-
 -- the file says this configuration
 pub record IsValidFile (file behind text : List ℕ) (status : Status) : Type 0 where
   pub config : Config
   pub says : config_of file ≡ Ok config
-  pub answer : IsConfigAnswer config behind text status
+  pub answer : IsStepsAnswer config behind text status
 
 -- the file has this fault first
 pub record IsFaultyFile (file text : List ℕ) (status : Status) : Type 0 where

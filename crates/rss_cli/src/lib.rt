@@ -6,7 +6,6 @@ mod commands;
 mod fault;
 mod fault_lines;
 mod play;
-mod served;
 mod split;
 mod status;
 
