@@ -1,5 +1,5 @@
 -- What every World keeps, before the first step and after each one.
-use Rattle.std.proofs.Common.{◌≡◌, ℕ, zero, suc, ◌+◌, ◌≤◌, ◌<◌, ◌^◌, get_or, Bool, true, false, List, [], ◌∷◌, ◌++◌, length, Option, Some, None, All, refl, arith, ap, ◌∙◌, sym, subst}
+use Rattle.std.proofs.Common.{◌≡◌, ℕ, zero, suc, ◌+◌, ◌≤◌, ◌<◌, ◌^◌, get_or, Bool, true, false, List, [], ◌∷◌, ◌++◌, length, Some, None, All, refl, arith, ap, ◌∙◌, sym, subst}
 use Rattle.std.specs.List.{list_all}
 use Rattle.std.proofs.lemmas.Bool.{and_parts}
 use Rattle.std.proofs.lemmas.List.Elements.{All-cons, All-nil}
@@ -14,14 +14,11 @@ use Rattle.rss_machine.specs.declared.step.Logged.{Logged}
 use Rattle.world_laws.specs.Laws.{IsOrdered}
 use Rattle.world_laws.specs.Numbered.{is_numbered, are_numbered}
 use Rattle.world_laws.specs.Shapes.{IsSoundFile}
-use Rattle.world_laws.proofs.Clock.{run_counted}
 use Rattle.world_laws.proofs.Runs.{run_more, steps_grow}
-use Rattle.fence_laws.proofs.StepsOf.{moments_run}
 use Rattle.world_machine.specs.declared.machine.Machine.{Machine}
-use Rattle.world_machine.specs.Machine.{state_of, IsOpening, SameButRoom}
-use Rattle.world_machine.specs.Asking.{CanAsk}
+use Rattle.world_machine.specs.Machine.{state_of, IsOpening}
 use Rattle.world_machine.specs.Ready.{IsReady, HasFacts}
-use Rattle.event_world.specs.Kept.{IsKept, IsPrepared, IsWorld, AreReadings}
+use Rattle.event_world.specs.Kept.{IsKept, AreReadings}
 use Rattle.run_laws.specs.Facts.{RunKeeps}
 use Rattle.run_laws.proofs.Facts.{keeps_run}
 use Rattle.turn_facts.specs.Steps.{StepFacts}
@@ -29,7 +26,6 @@ use Rattle.turn_facts.proofs.Steps.{step_facts_run}
 use Rattle.turn_facts.proofs.Facts.{facts_run as turn_facts_run}
 use Rattle.place_facts.specs.Facts.{PlaceFacts}
 use Rattle.place_facts.proofs.Facts.{facts_run as places_run}
-use Rattle.world_machine.specs.StepRooms.{HasRoom}
 use Rattle.world_traffic.specs.View.{IsQuiet}
 use Rattle.world_turns.specs.Asked.{CanTell}
 
@@ -83,23 +79,6 @@ kept_new c m file opening quiet = record {
   quiet = quiet;
 }
 
--- where only room was made, all is kept
-pub kept_room : (old new : Machine) (log : List Logged) → IsKept old log → SameButRoom old new → IsQuiet new.traffic → IsKept new log
-kept_room old new log k same quiet = record {
-  replays = ap (λ (x : Config). run x (steps_of log)) same.config ∙ k.replays ∙ ap (λ (s : State). Some s) (sym same.state);
-  readings = k.readings;
-  numbered = k.numbered;
-  file = subst IsSoundFile (sym same.config) k.file;
-  quiet = quiet;
-}
-
--- a prepared step that is not refused has room, and so has the log
-pub room_for : (m : Machine) (log : List Logged) (capacity len : ℕ) (prepared : Option Step) (step : Step) → IsWorld m log capacity len prepared → prepared ≡ Some step → refusal m.config (state_of m) step ≡ None → HasRoom m step
-room_for m log capacity len prepared step w e allowed = (subst (IsPrepared m len capacity) e w.room allowed).1
-
-pub log_room : (m : Machine) (log : List Logged) (capacity len : ℕ) (prepared : Option Step) (step : Step) → IsWorld m log capacity len prepared → prepared ≡ Some step → refusal m.config (state_of m) step ≡ None → len + 1 ≤ capacity
-log_room m log capacity len prepared step w e allowed = (subst (IsPrepared m len capacity) e w.room allowed).0
-
 -- what a World keeps gives its steps what they need
 module _ (log : List Logged) (m : Machine) (k : IsKept m log) where
   run_keeps : RunKeeps m.config (state_of m)
@@ -136,30 +115,3 @@ module _ (log : List Logged) (m : Machine) (k : IsKept m log) where
 
   pub place_facts : PlaceFacts (state_of m)
   place_facts = places_run m.config (steps_of log) (state_of m) k.file.keys (all_ordered (readings_of (steps_of log)) k.readings) k.replays
-
-  pub can_ask : CanAsk m
-  can_ask = can_tell.ask
-
-  pub few_steps : m.clock.steps ≤ 200000
-  few_steps =
-      let counted = (run_counted m.config (steps_of log) (state_of m) k.replays).1 in
-      let within = k.file.within.steps in
-      omega (arith, counted, within)
-
-  pub few_moments : length m.clock.moments.items + 1 < 2 ^ 32
-  few_moments =
-      let long = (moments_run m.config (steps_of log) (state_of m) k.replays).long in
-      let few = few_steps in
-      omega (arith, long, few)
-
-  pub steps_low : m.clock.steps + 1 < 2 ^ 32
-  steps_low = let few = few_steps in omega (arith, few)
-
-  pub few_stages : length m.staging.staging.stages ≤ 16
-  few_stages = can_tell.stages
-
-  pub few_owners : length m.traffic.traffic.owners < 2 ^ 32
-  few_owners =
-      let most = run_keeps.ready.sizes.owners in
-      let few = few_steps in
-      omega (arith, most, few)

@@ -2,7 +2,7 @@
 
 ghost use Rattle.std.specs.Prelude.{◌≡◌, ◌≤◌, ◌++◌, ◌∷◌, [], OnOk, OnErr, IfOk, IfErr, IsTrue, None, Some, ◌↔◌};
 ghost use Rattle.event_world.specs.World.{Takes, SameWorld, IsNew};
-ghost use Rattle.std.specs.Prelude.{◌+◌, length, true, option_copied};
+ghost use Rattle.std.specs.Prelude.{◌+◌, length, IfNone};
 ghost use Rattle.causal_context.specs.Services.{place_of};
 ghost use Rattle.event_world.specs.Asked.{cut_target, count_by};
 ghost use Rattle.world_turns.specs.Asked.{blocked_by};
@@ -21,9 +21,7 @@ ghost use Rattle.truetime.specs.Reading.{AreConsistent};
 
 use call_places::place_key;
 use pipeline_lang::Config;
-use rss_machine::{
-    Ending, Logged, OwnerFate, PlaceKey, StageState, Step, StepKind, StepRefusal, Turn,
-};
+use rss_machine::{Ending, Logged, OwnerFate, PlaceKey, StageState, Step, StepKind, StepRefusal, Turn};
 use rss_model::Entry;
 use rss_names::{CallId, ServiceId, StageId, Target};
 use rss_tables::Await;
@@ -68,7 +66,6 @@ impl Model for World {
 
 impl World {
     /// The World before the first step of a file that is sound, as every file that is read.
-    #[tactic(auto, using(crate::proofs::Keeping::kept_new))]
     pub fn new(alloc: Global, config: Config) -> Result<World, AllocError>
         requires file { IsSoundFile config }
         ensures { IfOk result (λ w. IsNew w config) }
@@ -83,7 +80,6 @@ impl World {
 
     /// Makes room for a step, and forgets the one that there was room for. Where memory is wanting,
     /// nothing but room has changed.
-    #[tactic(auto, using(crate::proofs::Keeping::ready, crate::proofs::Keeping::facts, crate::proofs::Keeping::can_ask, crate::proofs::Keeping::kept_room))]
     pub fn make_room(&mut self, s: &Step) -> Result<(), AllocError>
         ensures ready { OnOk result (self.new.prepared ≡ Some s.now) }
         ensures same { SameWorld self.old self.new }
@@ -101,7 +97,6 @@ impl World {
 
     /// Makes the step that was prepared, or refuses it by the first cause that applies and changes
     /// nothing. Takes no memory.
-    #[tactic(auto, using(crate::proofs::Keeping::ready, crate::proofs::Keeping::facts, crate::proofs::Keeping::can_ask, crate::proofs::Keeping::room_for, crate::proofs::Keeping::log_room, crate::proofs::Keeping::kept_more))]
     pub fn step(&mut self, s: &Step, driver: u8) -> Result<(), StepRefusal>
         requires prepared { self.old.prepared ≡ Some s.now }
         ensures taken { OnOk result (Takes self.old self.new s.now driver) }
@@ -126,7 +121,6 @@ impl World {
     }
 
     /// Whether the step would be made.
-    #[tactic(auto, using(crate::proofs::Keeping::can_ask))]
     pub fn enabled(&self, s: &Step) -> bool
         ensures { IsTrue result ↔ (refusal_of self.now.config self.now.state s.now ≡ None) }
     {
@@ -158,7 +152,6 @@ impl World {
     }
 
     /// How the run stands.
-    #[tactic(auto, using(crate::proofs::Keeping::can_tell))]
     pub fn ending(&self) -> Ending
         ensures { result ≡ ending_of self.now.config self.now.state }
     {
@@ -173,7 +166,6 @@ impl World {
     }
 
     /// How many stages the file has, at most sixteen.
-    #[tactic(auto, using(crate::proofs::Keeping::few_stages))]
     pub fn stages(&self) -> u8
         ensures same { result ≡ length self.now.state.stages }
         ensures few { result ≤ 16 }
@@ -189,7 +181,6 @@ impl World {
     }
 
     /// What a stage waits for, if its turn is to wait.
-    #[tactic(auto, using(crate::proofs::Keeping::can_tell))]
     pub fn blocked(&self, stage: StageId) -> Option<Await>
         ensures { result ≡ blocked_by (next_in self.now.config self.now.state stage) }
     {
@@ -197,7 +188,6 @@ impl World {
     }
 
     /// The next step of a stage, or why it has none.
-    #[tactic(auto, using(crate::proofs::Keeping::can_tell))]
     pub fn next_for(&self, stage: StageId) -> Turn
         ensures { result ≡ next_in self.now.config self.now.state stage }
     {
@@ -212,7 +202,6 @@ impl World {
     }
 
     /// How many calls have begun. They are numbered from 1.
-    #[tactic(auto, using(crate::proofs::Keeping::few_owners))]
     pub fn calls(&self) -> u32
         ensures { result + 1 ≡ length self.now.state.owners }
     {
@@ -257,7 +246,6 @@ impl World {
     }
 
     /// The key by which a call is placed in the one legal order, and None exactly where it is not placed.
-    #[tactic(auto, using(crate::proofs::Keeping::place_facts, crate::proofs::Keeping::few_moments, crate::proofs::Keeping::steps_low))]
     pub fn place_key(&self, call: CallId) -> Option<PlaceKey>
         ensures { result ≡ session_key self.now.state call (owner_at self.now.state call).session }
     {
@@ -265,7 +253,6 @@ impl World {
     }
 
     /// The number of steps made, which is the length of the log; at most 200,000.
-    #[tactic(auto, using(crate::proofs::Keeping::few_steps))]
     pub fn steps(&self) -> u32
         ensures same { result ≡ self.now.state.steps }
         ensures few { result ≤ 200000 }

@@ -4,10 +4,6 @@
 #[cfg(test)]
 mod mail_tests;
 #[cfg(test)]
-mod owner_tests;
-#[cfg(test)]
 mod register_tests;
 #[cfg(test)]
 mod round_tests;
-#[cfg(test)]
-mod stage_tests;

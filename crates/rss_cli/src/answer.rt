@@ -2,8 +2,7 @@
 
 ghost use Rattle.std.specs.Prelude.{◌≡◌, ◌≤◌, true, IfOk, length, All};
 ghost use Rattle.rss_machine.specs.Endings.{ending_of};
-ghost use Rattle.rss_machine.specs.Serial.{serial as policy_steps};
-ghost use Rattle.rss_cli.specs.Answer.{IsRead, IsReplayed, IsPlayed, IsStepsAnswer, IsFileAnswer, IsReported, IsReadBy, IsReadForPolicy, steps_limit, input_limit, is_answer};
+ghost use Rattle.rss_cli.specs.Answer.{IsRead, IsReplayed, IsPlayed, IsStepsAnswer, IsFileAnswer, steps_limit, input_limit, is_answer};
 ghost use Rattle.rss_cli.specs.FaultText.{fault_text};
 ghost use Rattle.rss_cli.specs.Reported.{IsReport};
 ghost use Rattle.rss_cli.specs.Statuses.{status_of};
@@ -15,12 +14,10 @@ use crate::fault_lines::fault_line;
 use crate::play::{PlayError, play};
 use crate::split::split;
 use crate::status::Status;
-use crate::words::Command;
 use event_world::World;
 use pipeline_file::{FileError, read};
 use pipeline_lang::Config;
 use rss_machine::Step;
-use serial_run::serial;
 use std::alloc::{AllocError, Global};
 use step_text::{StepTextError, read_steps};
 use world_report::report;
@@ -35,49 +32,14 @@ pub struct Answer {
     pub text: Vec<u8>,
 }
 
-/// The answer of a command to an input that is not too long.
-pub fn answer_of(alloc: Global, command: Command, input: &[u8]) -> Result<Answer, AllocError>
-    requires short { length input.now ≤ input_limit }
-    ensures answer { IfOk result (λ a. IsReadBy command input.now a.text.items a.status) }
-    ensures status { IfOk result (λ a. is_answer a.status ≡ true) }
-{
-    match command {
-        Command::Replay => replay_answer(alloc, input),
-        Command::Serial => serial_answer(alloc, input),
-    }
-}
-
-// The answer to a file and the step text behind it, in one input.
-fn replay_answer(alloc: Global, input: &[u8]) -> Result<Answer, AllocError>
-    requires short { length input.now ≤ input_limit }
+/// The answer to an input that is not too long.
+pub fn answer_of(alloc: Global, input: &[u8]) -> Result<Answer, AllocError>
+    requires { length input.now ≤ input_limit }
     ensures answer { IfOk result (λ a. IsRead input.now a.text.items a.status) }
     ensures status { IfOk result (λ a. is_answer a.status ≡ true) }
 {
     let (file, behind) = split(input);
     replayed(alloc, file, behind)
-}
-
-// The answer to a file, by the steps of the serial policy.
-fn serial_answer(alloc: Global, input: &[u8]) -> Result<Answer, AllocError>
-    requires short { length input.now ≤ input_limit }
-    ensures answer { IfOk result (λ a. IsReadForPolicy input.now a.text.items a.status) }
-    ensures status { IfOk result (λ a. is_answer a.status ≡ true) }
-{
-    match read(alloc, input) {
-        Ok(config) => policy_answer(alloc, config),
-        Err(FileError::Fault(first)) => fault_answer(alloc, Fault::File(first), Status::File),
-        Err(FileError::OutOfMemory) => Err(AllocError),
-    }
-}
-
-// The report of a configuration after the steps of the serial policy.
-fn policy_answer(alloc: Global, config: Config) -> Result<Answer, AllocError>
-    requires sound { IsSoundFile config }
-    ensures answer { IfOk result (λ a. IsReported config (policy_steps config) a.text.items a.status) }
-    ensures status { IfOk result (λ a. is_answer a.status ≡ true) }
-{
-    let world = serial(alloc, config)?;
-    report_answer(alloc, &world)
 }
 
 // The answer to a file and the step text behind it.

@@ -5,10 +5,10 @@ mod answer;
 mod commands;
 mod fault;
 mod fault_lines;
+mod generated;
 mod play;
 mod split;
 mod status;
-mod words;
 
 pub use commands::{still_top, top};
 pub use status::Status;

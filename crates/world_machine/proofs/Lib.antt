@@ -16,4 +16,3 @@ pub mod Coming
 pub mod Losing
 pub mod Counted
 pub mod Doing
-pub mod Start

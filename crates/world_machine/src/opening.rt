@@ -16,7 +16,6 @@ use world_traffic::Traffic;
 impl Machine {
     /// The machine before the first step of a file that is sound, as every file that is read. An `Err`
     /// is want of memory.
-    #[tactic(auto, using(crate::proofs::Start::few_stages, crate::proofs::Start::few_shards, crate::proofs::Start::few_keys, crate::proofs::Start::opened))]
     pub fn new(alloc: Global, config: Config) -> Result<Machine, AllocError>
         requires file { IsSoundFile config }
         ensures opening { IfOk result (λ m. IsOpening m config) }

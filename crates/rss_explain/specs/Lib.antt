@@ -1,4 +1,0 @@
--- chains of calls
-pub mod Chains
--- how they are found: level by level
-pub mod Levels
