@@ -1,11 +1,11 @@
 -- What the top call answers: which text and status, for which words and input.
-use Rattle.std.specs.Prelude.{ℕ, ◌≡◌, ◌≢◌, ◌<◌, ◌≤◌, ◌⊎◌, Bool, true, false, List, [], ◌∷◌, length, Option, Ok, Err, All, codes}
+use Rattle.std.specs.Prelude.{ℕ, ◌≡◌, ◌<◌, ◌≤◌, ◌⊎◌, Bool, true, false, List, [], ◌∷◌, length, Option, Ok, Err, All, codes}
 use Rattle.std.specs.Io.KnownBytes.{Appends, Keeps}
 use Rattle.rss_io.specs.Pieces.{AppendsFront}
 use Rattle.pipeline_lang.specs.declared.config.Config.{Config}
-use Rattle.rss_machine.specs.Built.{is_built}
 use Rattle.rss_machine.specs.Endings.{ending_of}
 use Rattle.rss_machine.specs.Headline.{KeepsPromise}
+use Rattle.rss_machine.specs.Serial.{serial}
 use Rattle.rss_machine.specs.declared.step.Step.{Step}
 use Rattle.rss_machine.specs.declared.step.StepRefusal.{StepRefusal}
 use Rattle.step_text.specs.Spelling.{IsStep, text_of}
@@ -15,6 +15,9 @@ use Rattle.rss_cli.specs.Played.{IsFirstRefused}
 use Rattle.rss_cli.specs.Reported.{IsReport}
 use Rattle.rss_cli.specs.Split.{Splits}
 use Rattle.rss_cli.specs.Statuses.{status_of}
+use Rattle.rss_cli.specs.Words.{IsCalled, IsCommand}
+use Rattle.rss_cli.specs.declared.words.Command.{Command}
+use Rattle.rss_cli.specs.declared.words.Command.TheVariants as command
 use Rattle.rss_cli.specs.declared.fault.Fault.TheVariants as fault
 use Rattle.pipeline_tables.specs.declared.fault.FileFault.{FileFault}
 use Rattle.pipeline_file.specs.Document.{config_of}
@@ -59,26 +62,11 @@ pub record IsOffGrammar (behind text : List ℕ) (status : Status) : Type 0 wher
 abbrev pub IsStepsAnswer : Config → List ℕ → List ℕ → Status → Type 0
 IsStepsAnswer c behind text status = IsSpelled c behind text status ⊎ IsOffGrammar behind text status
 
--- the file is one that runs
-pub record IsBuiltFile (config : Config) (behind text : List ℕ) (status : Status) : Type 0 where
-  pub built : is_built config ≡ true
-  pub answer : IsStepsAnswer config behind text status
-
--- the file is valid, and does not run yet
-pub record IsNotBuilt (config : Config) (text : List ℕ) (status : Status) : Type 0 where
-  pub not_built : is_built config ≡ false
-  pub told : text ≡ fault_text fault.NotBuilt
-  pub status_is : status ≡ File
-
--- the answer to a configuration and the step text behind it
-abbrev pub IsConfigAnswer : Config → List ℕ → List ℕ → Status → Type 0
-IsConfigAnswer config behind text status = IsBuiltFile config behind text status ⊎ IsNotBuilt config text status
-
 -- the file says this configuration
 pub record IsValidFile (file behind text : List ℕ) (status : Status) : Type 0 where
   pub config : Config
   pub says : config_of file ≡ Ok config
-  pub answer : IsConfigAnswer config behind text status
+  pub answer : IsStepsAnswer config behind text status
 
 -- the file has this fault first
 pub record IsFaultyFile (file text : List ℕ) (status : Status) : Type 0 where
@@ -131,17 +119,34 @@ pub record IsUsageAnswer (text : List ℕ) (status : Status) : Type 0 where
 
 -- the words are no command
 pub record IsUsage (words : List (List ℕ)) (text : List ℕ) (status : Status) : Type 0 where
-  pub other : words ≢ codes "replay" ∷ []
+  pub other : IsCommand words → ⊥
   pub answer : IsUsageAnswer text status
 
--- the words are the command that is built
-pub record IsReplay (words : List (List ℕ)) (input text : List ℕ) (status : Status) : Type 0 where
-  pub word : words ≡ codes "replay" ∷ []
-  pub answer : IsRead input text status ⊎ IsTooLong input text status
+-- the answer to a file by the steps of the serial policy
+pub record IsValidForPolicy (file text : List ℕ) (status : Status) : Type 0 where
+  pub config : Config
+  pub says : config_of file ≡ Ok config
+  pub reported : IsReported config (serial config) text status
+
+-- the input was read, is no longer than its limit, and is a file alone
+pub record IsReadForPolicy (input text : List ℕ) (status : Status) : Type 0 where
+  pub short : length input ≤ input_limit
+  pub answer : IsValidForPolicy input text status ⊎ IsFaultyFile input text status
+
+-- the answer of a command to an input that was read
+abbrev pub IsReadBy : Command → List ℕ → List ℕ → Status → Type 0
+IsReadBy command.Replay input text status = IsRead input text status
+IsReadBy command.Serial input text status = IsReadForPolicy input text status
+
+-- the words are this command
+pub record IsServed (words : List (List ℕ)) (input text : List ℕ) (status : Status) : Type 0 where
+  pub command : Command
+  pub called : IsCalled command words
+  pub answer : IsReadBy command input text status ⊎ IsTooLong input text status
 
 -- which text and status are the answer to these words and this input
 abbrev pub IsAnswer : List (List ℕ) → List ℕ → List ℕ → Status → Type 0
-IsAnswer words input text status = IsUsage words text status ⊎ IsReplay words input text status
+IsAnswer words input text status = IsUsage words text status ⊎ IsServed words input text status
 
 -- the whole text of the answer with this status was written
 pub record Told (old new : Option (List ℕ)) (words : List (List ℕ)) (input : List ℕ) (status : Status) : Type 0 where

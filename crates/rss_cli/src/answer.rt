@@ -1,9 +1,9 @@
 //! Answers: the text and the status for an input, all made before the first byte is written.
 
-ghost use Rattle.std.specs.Prelude.{◌≡◌, ◌≤◌, true, false, IfOk, length, All};
-ghost use Rattle.rss_machine.specs.Built.{is_built};
+ghost use Rattle.std.specs.Prelude.{◌≡◌, ◌≤◌, true, IfOk, length, All};
 ghost use Rattle.rss_machine.specs.Endings.{ending_of};
-ghost use Rattle.rss_cli.specs.Answer.{IsRead, IsReplayed, IsPlayed, IsStepsAnswer, IsFileAnswer, IsConfigAnswer, IsNotBuilt, steps_limit, input_limit, is_answer};
+ghost use Rattle.rss_machine.specs.Serial.{serial as policy_steps};
+ghost use Rattle.rss_cli.specs.Answer.{IsRead, IsReplayed, IsPlayed, IsStepsAnswer, IsFileAnswer, IsReported, IsReadBy, IsReadForPolicy, steps_limit, input_limit, is_answer};
 ghost use Rattle.rss_cli.specs.FaultText.{fault_text};
 ghost use Rattle.rss_cli.specs.Reported.{IsReport};
 ghost use Rattle.rss_cli.specs.Statuses.{status_of};
@@ -13,13 +13,14 @@ ghost use Rattle.world_laws.specs.Shapes.{IsSoundFile};
 use crate::fault::Fault;
 use crate::fault_lines::fault_line;
 use crate::play::{PlayError, play};
-use crate::served::served;
 use crate::split::split;
 use crate::status::Status;
+use crate::words::Command;
 use event_world::World;
 use pipeline_file::{FileError, read};
 use pipeline_lang::Config;
 use rss_machine::Step;
+use serial_run::serial;
 use std::alloc::{AllocError, Global};
 use step_text::{StepTextError, read_steps};
 use world_report::report;
@@ -34,14 +35,49 @@ pub struct Answer {
     pub text: Vec<u8>,
 }
 
-/// The answer to an input that is not too long.
-pub fn answer_of(alloc: Global, input: &[u8]) -> Result<Answer, AllocError>
-    requires { length input.now ≤ input_limit }
+/// The answer of a command to an input that is not too long.
+pub fn answer_of(alloc: Global, command: Command, input: &[u8]) -> Result<Answer, AllocError>
+    requires short { length input.now ≤ input_limit }
+    ensures answer { IfOk result (λ a. IsReadBy command input.now a.text.items a.status) }
+    ensures status { IfOk result (λ a. is_answer a.status ≡ true) }
+{
+    match command {
+        Command::Replay => replay_answer(alloc, input),
+        Command::Serial => serial_answer(alloc, input),
+    }
+}
+
+// The answer to a file and the step text behind it, in one input.
+fn replay_answer(alloc: Global, input: &[u8]) -> Result<Answer, AllocError>
+    requires short { length input.now ≤ input_limit }
     ensures answer { IfOk result (λ a. IsRead input.now a.text.items a.status) }
     ensures status { IfOk result (λ a. is_answer a.status ≡ true) }
 {
     let (file, behind) = split(input);
     replayed(alloc, file, behind)
+}
+
+// The answer to a file, by the steps of the serial policy.
+fn serial_answer(alloc: Global, input: &[u8]) -> Result<Answer, AllocError>
+    requires short { length input.now ≤ input_limit }
+    ensures answer { IfOk result (λ a. IsReadForPolicy input.now a.text.items a.status) }
+    ensures status { IfOk result (λ a. is_answer a.status ≡ true) }
+{
+    match read(alloc, input) {
+        Ok(config) => policy_answer(alloc, config),
+        Err(FileError::Fault(first)) => fault_answer(alloc, Fault::File(first), Status::File),
+        Err(FileError::OutOfMemory) => Err(AllocError),
+    }
+}
+
+// The report of a configuration after the steps of the serial policy.
+fn policy_answer(alloc: Global, config: Config) -> Result<Answer, AllocError>
+    requires sound { IsSoundFile config }
+    ensures answer { IfOk result (λ a. IsReported config (policy_steps config) a.text.items a.status) }
+    ensures status { IfOk result (λ a. is_answer a.status ≡ true) }
+{
+    let world = serial(alloc, config)?;
+    report_answer(alloc, &world)
 }
 
 // The answer to a file and the step text behind it.
@@ -63,39 +99,14 @@ fn file_answer(alloc: Global, file: &[u8], behind: &[u8]) -> Result<Answer, Allo
     ensures status { IfOk result (λ a. is_answer a.status ≡ true) }
 {
     match read(alloc, file) {
-        Ok(config) => config_answer(alloc, config, behind),
+        Ok(config) => steps_answer(alloc, config, behind),
         Err(FileError::Fault(first)) => fault_answer(alloc, Fault::File(first), Status::File),
         Err(FileError::OutOfMemory) => Err(AllocError),
     }
 }
 
-// The answer to a configuration and the step text behind it.
-fn config_answer(alloc: Global, config: Config, behind: &[u8]) -> Result<Answer, AllocError>
-    requires sound { IsSoundFile config }
-    requires short { length behind.now ≤ steps_limit }
-    ensures answer { IfOk result (λ a. IsConfigAnswer config behind.now a.text.items a.status) }
-    ensures status { IfOk result (λ a. is_answer a.status ≡ true) }
-{
-    if served(&config) {
-        steps_answer(alloc, config, behind)
-    } else {
-        not_built(alloc, &config)
-    }
-}
-
-// The answer to a configuration that does not run yet.
-fn not_built(alloc: Global, config: &Config) -> Result<Answer, AllocError>
-    requires { is_built config.now ≡ false }
-    ensures answer { IfOk result (λ a. IsNotBuilt config.now a.text.items a.status) }
-    ensures status { IfOk result (λ a. is_answer a.status ≡ true) }
-{
-    let _ = config;
-    fault_answer(alloc, Fault::NotBuilt, Status::File)
-}
-
 // The answer to the step text of a configuration.
 fn steps_answer(alloc: Global, config: Config, behind: &[u8]) -> Result<Answer, AllocError>
-    requires built { is_built config ≡ true }
     requires sound { IsSoundFile config }
     requires short { length behind.now ≤ steps_limit }
     ensures answer { IfOk result (λ a. IsStepsAnswer config behind.now a.text.items a.status) }
@@ -116,7 +127,6 @@ fn steps_answer(alloc: Global, config: Config, behind: &[u8]) -> Result<Answer, 
 
 // The answer to a list of steps of a configuration.
 fn played(alloc: Global, config: Config, steps: &[Step]) -> Result<Answer, AllocError>
-    requires built { is_built config ≡ true }
     requires sound { IsSoundFile config }
     requires grammar { All IsStep steps.now }
     ensures answer { IfOk result (λ a. IsPlayed config steps.now a.text.items a.status) }

@@ -6,9 +6,9 @@ mod commands;
 mod fault;
 mod fault_lines;
 mod play;
-mod served;
 mod split;
 mod status;
+mod words;
 
 pub use commands::{still_top, top};
 pub use status::Status;
