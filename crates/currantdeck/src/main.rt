@@ -2,9 +2,10 @@
 //! call at its place in the one order. `rss_cli` says what it reads and writes.
 #![tactic(auto)]
 
-use rss_cli::{Status, top};
+use librss_registry::{RegService, Service, TxnService};
+use rss_cli::{Kit, Status, top};
 use rss_io::{StdSink, StdSource};
-use std::alloc::Global;
+use std::alloc::{AllocError, Global};
 use std::process::ExitCode;
 use std::rt::Env;
 use std::{env, io};
@@ -12,15 +13,44 @@ use std::{env, io};
 fn main(rt: HostRuntime) -> ExitCode {
     let mut source = StdSource::new(rt.stdin());
     let mut sink = StdSink::new(rt.stdout());
+    let mut kit = Kit {
+        services: Vec::new(rt.alloc()),
+        log: Vec::new(rt.alloc()),
+    };
+    if push_services(rt.alloc(), &mut kit.services).is_err() {
+        return ExitCode::from(Status::OutOfMemory.code());
+    }
     let status = match words(&rt, rt.alloc()) {
-        Ok(words) => top(rt.alloc(), words.as_slice(), &mut source, &mut sink),
+        Ok(words) => top(
+            rt.alloc(),
+            words.as_slice(),
+            &mut source,
+            &mut sink,
+            &mut kit,
+        ),
         // Words that are no text are no command's.
         Err(error) if error.kind() == io::ErrorKind::InvalidData => {
-            top(rt.alloc(), &[], &mut source, &mut sink)
+            top(rt.alloc(), &[], &mut source, &mut sink, &mut kit)
         }
         Err(_) => Status::OutOfMemory,
     };
     ExitCode::from(status.code())
+}
+
+// All services that a file can have.
+fn push_services(
+    alloc: Global,
+    services: &mut Vec<Box<dyn Service + Send>>,
+) -> Result<(), AllocError> {
+    for number in 1..9 {
+        let txn: Box<dyn Service + Send> = Box::new(alloc, TxnService::new(number))?;
+        services.push(txn)?;
+    }
+    for number in 1..9 {
+        let reg: Box<dyn Service + Send> = Box::new(alloc, RegService::new(number))?;
+        services.push(reg)?;
+    }
+    Ok(())
 }
 
 // The words of the command, after the program's own name.

@@ -1,13 +1,15 @@
 -- Each run of a file that is read keeps what every reported run owes.
-use Rattle.std.proofs.Common.{◌≡◌, ℕ, suc, ◌≤◌, true, List, [], ◌∷◌, Ok, Some, All, refl, arith}
+use Rattle.std.proofs.Common.{◌≡◌, ℕ, suc, ◌≤◌, true, List, [], ◌∷◌, length, Ok, Some, All, refl, arith}
 use Rattle.std.proofs.lemmas.Bool.Decides.{nat_tests}
 use Rattle.std.proofs.lemmas.List.Elements.{All-cons, All-nil}
 use Rattle.std.specs.Prelude.{nat_lt}
 use Rattle.pipeline_lang.specs.declared.config.Config.{Config}
 use Rattle.pipeline_file.specs.Document.{config_of}
+use Rattle.policy_laws.proofs.Proper.{serial_proper}
 use Rattle.promise_laws.proofs.Promised.{promised_run}
 use Rattle.rss_machine.specs.Headline.{KeepsPromise}
 use Rattle.rss_machine.specs.Run.{run, readings_of}
+use Rattle.rss_machine.specs.Serial.{serial}
 use Rattle.rss_machine.specs.State.{State}
 use Rattle.rss_machine.specs.declared.step.Step.{Step}
 use Rattle.rss_machine.specs.declared.step.StepKind.{StepKind}
@@ -21,6 +23,10 @@ use Rattle.world_laws.specs.Shapes.{IsSoundFile}
 -- a file that is read is sound
 pub read_sound : (file : List ℕ) (c : Config) → config_of file ≡ Ok c → IsSoundFile c
 read_sound file c e = files_are_sound file c e
+
+-- and has few registers
+pub few_registers : (c : Config) → IsSoundFile c → length c.register_services ≤ 64
+few_registers c f = let l = f.within.registers in let same = f.within.listed in omega (arith, same, l)
 
 -- what holds of each of these steps holds of the first and of those behind it
 first_is : (step : Step) (steps : List Step) → All IsStep (step ∷ steps) → IsStep step
@@ -56,3 +62,7 @@ numbered (step ∷ steps) g =
 -- what every reported run owes, of steps of the grammar over a file that is read
 pub keeps_promise : (c : Config) (steps : List Step) (s : State) → IsSoundFile c → All IsStep steps → run c steps ≡ Some s → KeepsPromise c steps
 keeps_promise c steps s f g e = promised_run c steps s f (ordered steps g) (numbered steps g) e
+
+-- and so does that of the serial policy
+pub policy_keeps_promise : (c : Config) (s : State) → IsSoundFile c → run c (serial c) ≡ Some s → KeepsPromise c (serial c)
+policy_keeps_promise c s f e = let p = serial_proper c in promised_run c (serial c) s f p.ordered p.numbered e

@@ -1,6 +1,9 @@
 pub mod Statuses
 pub mod FaultText
-pub mod Split
 pub mod Played
 pub mod Reported
+pub mod Disk
+pub mod Generated
+pub mod Kits
 pub mod Answer
+pub mod Again

@@ -1,23 +1,36 @@
 //! The top call: words and an input in, a text and a status out.
 
-ghost use Rattle.std.specs.Prelude.{◌≡◌, ◌≢◌, ◌∷◌, [], ◌↔◌, ◌<◌, ◌≤◌, true, codes, map, length, IfOk, IfSome, IsTrue, MatchResult};
+ghost use Rattle.std.specs.Prelude.{◌≡◌, ◌<◌, ◌≤◌, [], true, map, length, IfOk, IfSome, IsTrue, MatchResult};
 ghost use Rattle.std.specs.Io.KnownBytes.{IsAtEnd, Keeps};
 ghost use Rattle.std.specs.String.{string_bytes};
 ghost use Rattle.rss_io.specs.Faults.{Rose};
 ghost use Rattle.rss_cli.specs.Answer.{Wrote, WroteUsage, IsAnswer, IsUsageAnswer, is_answer, is_report, input_limit};
+ghost use Rattle.librss_registry.specs.Registered.{registered};
+ghost use Rattle.rss_cli.specs.Generated.{WroteGenerated};
+ghost use Rattle.rss_cli.specs.Kits.{kit_of};
+ghost use Rattle.command_words.specs.Generated.{IsGen, IsNoGen};
+ghost use Rattle.command_words.specs.Words.{IsCommand};
+ghost use Rattle.rss_machine.specs.Generated.{generated_file};
 
 use crate::answer::{Answer, answer_of, fault_answer};
 use crate::fault::Fault;
+use crate::generated::generated_answer;
+use crate::kit::{Kit, take_services};
 use crate::status::Status;
+use command_words::{command_of, gen_number};
+use librss_registry::{Registry, Service};
 use rss_io::{ReadError, Sink, Source, read_all, write_all};
 use std::alloc::{AllocError, Global};
 
 /// The longest input, in bytes: a file of 1,048,576, the line `%steps`, and step text of 16,777,216.
 const LONGEST_INPUT: usize = 17_825_799;
 
-/// The command of these words: reads the source, and writes a report or the line of a fault to the
-/// sink. The whole text is made before its first byte is written. Other words than a command's are
-/// refused before a byte is read.
+/// The command of these words: reads the source, and writes what is told of the run, or the line of a fault,
+/// to the sink. `gen` with a number reads nothing and writes the generated file of that number. The whole text
+/// is made before its first byte is written. Other words are refused before a byte is read.
+///
+/// The steps plan their fences through the kit's services, of which none is left in the kit afterwards. The
+/// kit's log is that of the World that is reported, and empty where none is.
 ///
 /// Today every command is served by `still_top`.
 pub fn top<S: Source, K: Sink>(
@@ -25,43 +38,57 @@ pub fn top<S: Source, K: Sink>(
     words: &[String],
     source: &mut S,
     sink: &mut K,
+    kit: &mut Kit,
 ) -> Status
     ensures written { IfSome (S.left source.old) (λ input.
-        Wrote (K.written sink.old) (K.written sink.new) (map string_bytes words.now) input result) }
-    ensures read_to_end { IsTrue (is_report result) → IsAtEnd (S.left source.new) }
+        Wrote (kit_of (λ b. service_id b) (λ b. fences_planned b) (registered (λ b. service_id b) [] kit.old.services.items) kit.new.log.items)
+        (K.written sink.old) (K.written sink.new) (map string_bytes words.now) input result) }
+    ensures taken { kit.new.services.items ≡ [] }
+    ensures read_to_end { IsNoGen (map string_bytes words.now) → IsTrue (is_report result) → IsAtEnd (S.left source.new) }
     ensures read { result ≡ Status.ReadFault →
-        (map string_bytes words.now ≡ codes "replay" ∷ []) × Rose (S.source_faults source.old) (S.source_faults source.new) }
+        IsCommand (map string_bytes words.now) × Rose (S.source_faults source.old) (S.source_faults source.new) }
     ensures write { result ≡ Status.WriteFault → Rose (K.sink_faults sink.old) (K.sink_faults sink.new) }
-    ensures unread { map string_bytes words.now ≢ codes "replay" ∷ [] → Keeps (S.left source.old) (S.left source.new) }
-    ensures usage { map string_bytes words.now ≢ codes "replay" ∷ [] →
+    ensures unread { (IsCommand (map string_bytes words.now) → ⊥) → Keeps (S.left source.old) (S.left source.new) }
+    ensures usage { (IsCommand (map string_bytes words.now) → ⊥) → IsNoGen (map string_bytes words.now) →
         WroteUsage (K.written sink.old) (K.written sink.new) result }
+    ensures generated { (n : _) → IsGen (map string_bytes words.now) n →
+        WroteGenerated (K.written sink.old) (K.written sink.new) n result }
 {
-    still_top(alloc, words, source, sink)
+    still_top(alloc, words, source, sink, kit)
 }
 
-/// The commands that wait for nobody: `replay`. Other words than a command's are refused before a
-/// byte is read.
+/// The commands that wait for nobody: `replay` and `serial`, each with an option, `disk` with a replica and a call
+/// to stop at, and `gen` with a number. Other words are refused before a byte is read.
 pub fn still_top<S: Source, K: Sink>(
     alloc: Global,
     words: &[String],
     source: &mut S,
     sink: &mut K,
+    kit: &mut Kit,
 ) -> Status
     ensures written { IfSome (S.left source.old) (λ input.
-        Wrote (K.written sink.old) (K.written sink.new) (map string_bytes words.now) input result) }
-    ensures read_to_end { IsTrue (is_report result) → IsAtEnd (S.left source.new) }
+        Wrote (kit_of (λ b. service_id b) (λ b. fences_planned b) (registered (λ b. service_id b) [] kit.old.services.items) kit.new.log.items)
+        (K.written sink.old) (K.written sink.new) (map string_bytes words.now) input result) }
+    ensures taken { kit.new.services.items ≡ [] }
+    ensures read_to_end { IsNoGen (map string_bytes words.now) → IsTrue (is_report result) → IsAtEnd (S.left source.new) }
     ensures read { result ≡ Status.ReadFault →
-        (map string_bytes words.now ≡ codes "replay" ∷ []) × Rose (S.source_faults source.old) (S.source_faults source.new) }
+        IsCommand (map string_bytes words.now) × Rose (S.source_faults source.old) (S.source_faults source.new) }
     ensures write { result ≡ Status.WriteFault → Rose (K.sink_faults sink.old) (K.sink_faults sink.new) }
-    ensures unread { map string_bytes words.now ≢ codes "replay" ∷ [] → Keeps (S.left source.old) (S.left source.new) }
-    ensures usage { map string_bytes words.now ≢ codes "replay" ∷ [] →
+    ensures unread { (IsCommand (map string_bytes words.now) → ⊥) → Keeps (S.left source.old) (S.left source.new) }
+    ensures usage { (IsCommand (map string_bytes words.now) → ⊥) → IsNoGen (map string_bytes words.now) →
         WroteUsage (K.written sink.old) (K.written sink.new) result }
+    ensures generated { (n : _) → IsGen (map string_bytes words.now) n →
+        WroteGenerated (K.written sink.old) (K.written sink.new) n result }
 {
-    match respond(alloc, words, source) {
-        Ok(answer) => match write_all(sink, answer.text.as_slice()) {
-            Ok(()) => answer.status,
-            Err(_) => Status::WriteFault,
-        },
+    kit.log.clear();
+    match answered(alloc, words, source, &mut kit.services) {
+        Ok(Answer { status, text, log }) => {
+            kit.log = log;
+            match write_all(sink, text.as_slice()) {
+                Ok(()) => status,
+                Err(_) => Status::WriteFault,
+            }
+        }
         Err(Halt::ReadFault) => Status::ReadFault,
         Err(Halt::OutOfMemory) => Status::OutOfMemory,
     }
@@ -74,23 +101,63 @@ enum Halt {
     OutOfMemory,
 }
 
-// The answer to the words and the input, of which no byte is written yet.
-fn respond<S: Source>(alloc: Global, words: &[String], source: &mut S) -> Result<Answer, Halt>
+// The answer to the words and the input, of which no byte is written yet, with the services that are
+// taken out of a kit.
+fn answered<S: Source>(
+    alloc: Global,
+    words: &[String],
+    source: &mut S,
+    services: &mut Vec<Box<dyn Service + Send>>,
+) -> Result<Answer, Halt>
+    ensures taken { services.new.items ≡ [] }
     ensures answer { IfOk result (λ a. IfSome (S.left source.old) (λ input.
-        IsAnswer (map string_bytes words.now) input a.text.items a.status)) }
+        IsAnswer (kit_of (λ b. service_id b) (λ b. fences_planned b) (registered (λ b. service_id b) [] services.old.items) a.log.items)
+        (map string_bytes words.now) input a.text.items a.status)) }
     ensures status { IfOk result (λ a. is_answer a.status ≡ true) }
-    ensures read_to_end { IfOk result (λ a. IsTrue (is_report a.status) → IsAtEnd (S.left source.new)) }
+    ensures read_to_end { IsNoGen (map string_bytes words.now) →
+        IfOk result (λ a. IsTrue (is_report a.status) → IsAtEnd (S.left source.new)) }
     ensures read { result ≡ Err Halt.ReadFault →
-        (map string_bytes words.now ≡ codes "replay" ∷ []) × Rose (S.source_faults source.old) (S.source_faults source.new) }
-    ensures unread { map string_bytes words.now ≢ codes "replay" ∷ [] → Keeps (S.left source.old) (S.left source.new) }
-    ensures usage { map string_bytes words.now ≢ codes "replay" ∷ [] →
+        IsCommand (map string_bytes words.now) × Rose (S.source_faults source.old) (S.source_faults source.new) }
+    ensures unread { (IsCommand (map string_bytes words.now) → ⊥) → Keeps (S.left source.old) (S.left source.new) }
+    ensures usage { (IsCommand (map string_bytes words.now) → ⊥) → IsNoGen (map string_bytes words.now) →
         MatchResult result (λ a. IsUsageAnswer a.text.items a.status) (λ e. e ≡ Halt.OutOfMemory) }
+    ensures generated { (n : _) → IsGen (map string_bytes words.now) n →
+        MatchResult result (λ a. (a.text.items ≡ generated_file n) × (a.status ≡ Status.Done)) (λ e. e ≡ Halt.OutOfMemory) }
 {
-    if !is_replay(words) {
-        return made(fault_answer(alloc, Fault::Usage, Status::Usage));
+    match take_services(alloc, services) {
+        Ok(registry) => respond(alloc, words, source, registry),
+        Err(_) => Err(Halt::OutOfMemory),
     }
+}
+
+// The answer to the words and the input with these services.
+fn respond<S: Source, V: Service>(
+    alloc: Global,
+    words: &[String],
+    source: &mut S,
+    registry: Registry<V>,
+) -> Result<Answer, Halt>
+    ensures answer { IfOk result (λ a. IfSome (S.left source.old) (λ input.
+        IsAnswer (kit_of V.service_id V.fences_planned registry a.log.items) (map string_bytes words.now) input a.text.items a.status)) }
+    ensures status { IfOk result (λ a. is_answer a.status ≡ true) }
+    ensures read_to_end { IsNoGen (map string_bytes words.now) →
+        IfOk result (λ a. IsTrue (is_report a.status) → IsAtEnd (S.left source.new)) }
+    ensures read { result ≡ Err Halt.ReadFault →
+        IsCommand (map string_bytes words.now) × Rose (S.source_faults source.old) (S.source_faults source.new) }
+    ensures unread { (IsCommand (map string_bytes words.now) → ⊥) → Keeps (S.left source.old) (S.left source.new) }
+    ensures usage { (IsCommand (map string_bytes words.now) → ⊥) → IsNoGen (map string_bytes words.now) →
+        MatchResult result (λ a. IsUsageAnswer a.text.items a.status) (λ e. e ≡ Halt.OutOfMemory) }
+    ensures generated { (n : _) → IsGen (map string_bytes words.now) n →
+        MatchResult result (λ a. (a.text.items ≡ generated_file n) × (a.status ≡ Status.Done)) (λ e. e ≡ Halt.OutOfMemory) }
+{
+    if let Some(n) = gen_number(words) {
+        return made(generated_answer(alloc, n));
+    }
+    let Some(command) = command_of(words) else {
+        return made(fault_answer(alloc, Fault::Usage, Status::Usage));
+    };
     match read_all(alloc, source, LONGEST_INPUT) {
-        Ok(input) => made(answer_of(alloc, input.as_slice())),
+        Ok(input) => made(answer_of(alloc, command, input.as_slice(), registry)),
         Err(ReadError::TooLong) => { made(fault_answer(alloc, Fault::TooLong, Status::File)) }
         Err(ReadError::ReadFault) => Err(Halt::ReadFault),
         Err(ReadError::OutOfMemory) => Err(Halt::OutOfMemory),
@@ -106,21 +173,4 @@ fn made(answer: Result<Answer, AllocError>) -> Result<Answer, Halt>
         Ok(answer) => Ok(answer),
         Err(_) => Err(Halt::OutOfMemory),
     }
-}
-
-// Whether the words are `replay` alone.
-fn is_replay(words: &[String]) -> bool
-    ensures { IsTrue result ↔ (map string_bytes words.now ≡ codes "replay" ∷ []) }
-{
-    match words {
-        [word] => is_replay_word(word),
-        _ => false,
-    }
-}
-
-// Whether a word is `replay`.
-fn is_replay_word(word: &String) -> bool
-    ensures { IsTrue result ↔ (string_bytes word.now ≡ codes "replay") }
-{
-    word.as_str() == "replay"
 }

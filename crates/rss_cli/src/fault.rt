@@ -2,6 +2,7 @@
 
 use pipeline_file::FileFault;
 use rss_machine::StepRefusal;
+use rss_names::{Name, ReplicaId};
 
 /// Why there is no report.
 #[derive(Clone, Copy, PartialEq, Eq)]
@@ -12,10 +13,12 @@ pub enum Fault {
     File(FileFault),
     /// The input, or the step text, is longer than its limit.
     TooLong,
-    /// The file is valid, and files of its kind do not run yet.
-    NotBuilt,
     /// The step of this number, counted from 1, goes off the grammar at this column, counted from 1.
     OffGrammar { number: u64, column: u64 },
     /// The step of this number, counted from 1, is refused by the machine.
     Refused { number: u64, cause: StepRefusal },
+    /// The scripts call the service of this name, and the caller hands in none of its number.
+    Service(Name),
+    /// The service `reg` has fewer replicas.
+    NoReplica(ReplicaId),
 }

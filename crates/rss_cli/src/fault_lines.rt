@@ -42,7 +42,6 @@ fn put_refusal(alloc: Global, out: &mut Vec<u8>, cause: StepRefusal) -> Result<(
             put(out, b" ")?;
             put_number(alloc, out, contradiction.latest)
         }
-        StepRefusal::NotBuilt => put(out, b"NotBuilt"),
         StepRefusal::StageOver => put(out, b"StageOver"),
         StepRefusal::Message(refusal) => {
             put(out, b"Message ")?;
@@ -60,7 +59,6 @@ fn put_fault(alloc: Global, out: &mut Vec<u8>, fault: Fault) -> Result<(), Alloc
         Fault::Usage => put(out, b"fault usage\n"),
         Fault::File(fault) => put_file(alloc, out, fault),
         Fault::TooLong => put(out, b"fault file OverLimit file\n"),
-        Fault::NotBuilt => put(out, b"fault file NotBuilt file\n"),
         Fault::OffGrammar { number, column } => {
             put(out, b"fault step ")?;
             put_number(alloc, out, number)?;
@@ -73,6 +71,16 @@ fn put_fault(alloc: Global, out: &mut Vec<u8>, fault: Fault) -> Result<(), Alloc
             put_number(alloc, out, number)?;
             put(out, b" ")?;
             put_refusal(alloc, out, cause)?;
+            put(out, b"\n")
+        }
+        Fault::Service(name) => {
+            put(out, b"fault service ")?;
+            put(out, name.bytes())?;
+            put(out, b"\n")
+        }
+        Fault::NoReplica(replica) => {
+            put(out, b"fault replica ")?;
+            put_number(alloc, out, u64::from(replica.number()))?;
             put(out, b"\n")
         }
     }

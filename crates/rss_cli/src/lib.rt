@@ -2,14 +2,20 @@
 #![tactic(auto)]
 
 mod answer;
+mod asked;
 mod commands;
+mod disk;
 mod fault;
 mod fault_lines;
+mod generated;
+mod kit;
+mod laws;
 mod play;
-mod served;
-mod split;
 mod status;
+mod telling;
 
 pub use commands::{still_top, top};
+pub use kit::Kit;
+pub use laws::printed_logs_replay;
 pub use status::Status;
 pub use world_report::report;

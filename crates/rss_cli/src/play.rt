@@ -1,12 +1,14 @@
 //! Steps of a list, made one after another.
 
-ghost use Rattle.std.specs.Prelude.{◌≡◌, ◌≤◌, ◌++◌, IfOk, IfErr, IsTrue};
-ghost use Rattle.rss_machine.specs.Built.{is_built};
+ghost use Rattle.std.specs.Prelude.{◌≡◌, ◌≤◌, ◌++◌, map, None, IfOk, IfErr};
+ghost use Rattle.file_services.specs.Used.{missing_service};
+ghost use Rattle.world_laws.specs.Shapes.{IsSoundFile};
 ghost use Rattle.rss_cli.specs.Played.{HasPlayed, IsPlayError};
 
-use event_world::World;
+use librss_registry::{Registry, Service};
 use pipeline_lang::Config;
 use rss_machine::{Step, StepRefusal};
+use served_world::ServedWorld;
 use std::alloc::{AllocError, Global};
 use thiserror::Error;
 
@@ -21,29 +23,34 @@ pub enum PlayError {
     OutOfMemory,
 }
 
-/// The World of a configuration after these steps, all of which driver 0 makes.
+/// The World of a configuration after these steps, all of which driver 0 makes, with these services.
 ///
 /// # Errors
 ///
 /// - `Refused` names the first step that the World refuses, and the cause.
 /// - `OutOfMemory`, where memory is wanting.
-pub fn play(alloc: Global, config: Config, steps: &[Step]) -> Result<World, PlayError>
-    requires built { IsTrue (is_built config) }
-    requires limit { config.max_steps ≤ 200000 }
-    ensures played { IfOk result (λ w. HasPlayed config steps.now w) }
+pub fn play<S: Service>(
+    alloc: Global,
+    config: Config,
+    registry: Registry<S>,
+    steps: &[Step],
+) -> Result<ServedWorld<S>, PlayError>
+    requires sound { IsSoundFile config }
+    requires served { missing_service (map S.service_id registry) config ≡ None }
+    ensures played { IfOk result (λ w. HasPlayed config steps.now w.world) }
     ensures refused { IfErr result (λ e. IsPlayError config steps.now e) }
 {
-    let mut world = match World::new(alloc, config) {
-        Ok(world) => world,
+    let mut served = match ServedWorld::new(alloc, config, registry) {
+        Ok(served) => served,
         Err(_) => return Err(PlayError::OutOfMemory),
     };
     for (before, step) in steps.iter().enumerate() {
-        match world.make_room(step) {
+        match served.make_room(step) {
             Ok(()) => {}
             Err(_) => return Err(PlayError::OutOfMemory),
         }
-        let _log = world.log();
-        match world.step(step, 0) {
+        let _log = served.world.log();
+        match served.step(step, 0) {
             Ok(()) => {}
             Err(cause) => {
                 let number = before as u64 + 1;
@@ -51,6 +58,6 @@ pub fn play(alloc: Global, config: Config, steps: &[Step]) -> Result<World, Play
             }
         }
     }
-    let _log = world.log();
-    Ok(world)
+    let _log = served.world.log();
+    Ok(served)
 }

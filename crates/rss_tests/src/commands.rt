@@ -1,6 +1,7 @@
 //! Commands over inputs in memory.
 
-use rss_cli::top;
+use librss_registry::{RegService, Service, TxnService};
+use rss_cli::{Kit, top};
 use rss_io::{MemSink, MemSource};
 use std::alloc::{AllocError, Global};
 
@@ -15,8 +16,38 @@ pub struct Left {
     pub text: Vec<u8>,
 }
 
-/// The command over a source and a sink whose calls of these numbers fail; the sink takes at most
-/// eight bytes a call.
+/// A kit without services.
+pub fn empty_kit(alloc: Global) -> Kit {
+    Kit {
+        services: Vec::new(alloc),
+        log: Vec::new(alloc),
+    }
+}
+
+/// A kit of the first transaction service and the first register service.
+fn both(alloc: Global) -> Result<Kit, AllocError> {
+    let mut kit = empty_kit(alloc);
+    push_txn(alloc, &mut kit)?;
+    push_reg(alloc, &mut kit)?;
+    Ok(kit)
+}
+
+/// The first transaction service comes into a kit.
+pub fn push_txn(alloc: Global, kit: &mut Kit) -> Result<(), AllocError> {
+    let service: Box<dyn Service + Send> = Box::new(alloc, TxnService::new(1))?;
+    kit.services.push(service)?;
+    Ok(())
+}
+
+/// The first register service comes into a kit.
+pub fn push_reg(alloc: Global, kit: &mut Kit) -> Result<(), AllocError> {
+    let service: Box<dyn Service + Send> = Box::new(alloc, RegService::new(1))?;
+    kit.services.push(service)?;
+    Ok(())
+}
+
+/// The command over a source and a sink whose calls of these numbers fail, with the first service of
+/// each kind; the sink takes at most eight bytes a call.
 pub fn run(
     alloc: Global,
     words: &[String],
@@ -24,9 +55,22 @@ pub fn run(
     source_fails: &[u32],
     sink_fails: &[u32],
 ) -> Result<Left, AllocError> {
+    let mut kit = both(alloc)?;
+    run_with(alloc, words, input, source_fails, sink_fails, &mut kit)
+}
+
+/// The same with this kit.
+pub fn run_with(
+    alloc: Global,
+    words: &[String],
+    input: &str,
+    source_fails: &[u32],
+    sink_fails: &[u32],
+    kit: &mut Kit,
+) -> Result<Left, AllocError> {
     let mut source = MemSource::new(alloc, input.as_bytes(), 4096, source_fails)?;
     let mut sink = MemSink::new(alloc, 8, sink_fails)?;
-    let status = top(alloc, words, &mut source, &mut sink);
+    let status = top(alloc, words, &mut source, &mut sink, kit);
     let text = Vec::from_slice(alloc, sink.bytes())?;
     Ok(Left {
         code: status.code(),
@@ -43,4 +87,10 @@ pub fn replay(
 ) -> Result<Left, AllocError> {
     let words = [String::from_str(alloc, "replay")?];
     run(alloc, &words, input, source_fails, sink_fails)
+}
+
+/// `serial` of an input, where no call fails.
+pub fn serial(alloc: Global, input: &str) -> Result<Left, AllocError> {
+    let words = [String::from_str(alloc, "serial")?];
+    run(alloc, &words, input, &[], &[])
 }

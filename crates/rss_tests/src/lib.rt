@@ -10,6 +10,10 @@ mod commands;
 #[cfg(test)]
 mod file_tests;
 #[cfg(test)]
+mod kit_tests;
+#[cfg(test)]
 mod run_tests;
+#[cfg(test)]
+mod serial_tests;
 #[cfg(test)]
 mod world_tests;

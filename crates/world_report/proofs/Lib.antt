@@ -1,5 +1,4 @@
 pub mod Placing
 pub mod Turned
 pub mod Onward
-pub mod Counts
 pub mod Lines
