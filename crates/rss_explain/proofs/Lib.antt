@@ -1,0 +1,9 @@
+pub mod Told
+pub mod Least
+pub mod Behinds
+pub mod Kept
+pub mod Turns
+pub mod Expanded
+pub mod Searched
+pub mod Left
+pub mod Linked
