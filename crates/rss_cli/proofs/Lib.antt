@@ -1,5 +1,5 @@
 pub mod Plays
-pub mod OneWord
 pub mod Sums
 pub mod Promised
 pub mod Answered
+pub mod Again
