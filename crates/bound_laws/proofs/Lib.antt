@@ -7,3 +7,4 @@ pub mod ReadRounds
 pub mod Clean
 pub mod Watch
 pub mod Watched
+pub mod Snapshots

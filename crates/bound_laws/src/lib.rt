@@ -3,4 +3,6 @@
 
 mod laws;
 
-pub use laws::{own_rounds_send_few_requests, reads_send_few_requests};
+pub use laws::{
+    own_rounds_send_few_requests, reads_send_few_requests, snapshots_ask_each_shard_once,
+};

@@ -1,20 +1,9 @@
 -- What the layers above ask of a turn, of an owner and of a log.
 use Rattle.std.specs.Prelude.{ℕ, suc, ◌==◌, List, [], ◌∷◌, Option, Some, None, if◌then◌else◌}
 use Rattle.rss_names.specs.declared.service.Target.{Target}
-use Rattle.rss_tables.specs.declared.endings.Await.{Await}
 use Rattle.rss_machine.specs.declared.state.OwnerFate.{OwnerFate}
 use Rattle.rss_machine.specs.declared.state.OwnerFate.TheVariants.{Running, Ended, Dropped, CutOff}
 use Rattle.rss_machine.specs.declared.step.Logged.{Logged}
-use Rattle.rss_machine.specs.declared.turn.Turn.{Turn}
-use Rattle.rss_machine.specs.declared.turn.Turn.TheVariants as turn
-
--- what a stage waits for, if its turn is to wait
-abbrev pub blocked_by : Turn → Option Await
-blocked_by (turn.Blocked a) = Some a
-blocked_by (turn.Step kind) = None
-blocked_by (turn.Past kind time) = None
-blocked_by turn.Unborn = None
-blocked_by turn.Over = None
 
 -- the target whose cut ended an owner as unavailable
 abbrev pub cut_target : OwnerFate → Option Target

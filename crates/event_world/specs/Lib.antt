@@ -1,8 +1,3 @@
-pub mod Machine
-pub mod Moves
-pub mod Ready
 pub mod Asked
-pub mod World
 pub mod Kept
-pub mod Targets
-pub mod Heard
+pub mod World

@@ -2,39 +2,43 @@
 
 ghost use Rattle.std.specs.Prelude.{◌≡◌, ◌≤◌, ◌++◌, ◌∷◌, [], OnOk, OnErr, IfOk, IfErr, IsTrue, None, Some, ◌↔◌};
 ghost use Rattle.event_world.specs.World.{Takes, SameWorld, IsNew};
-ghost use Rattle.std.specs.Prelude.{◌+◌, length, IfNone};
-ghost use Rattle.carstamps.specs.declared.carstamp.Carstamp.{Carstamp as Stamp};
+ghost use Rattle.std.specs.Prelude.{◌+◌, length, true, option_copied};
 ghost use Rattle.causal_context.specs.Services.{place_of};
-ghost use Rattle.event_world.specs.Asked.{blocked_by, cut_target, count_by};
-ghost use Rattle.rss_machine.specs.Built.{is_built, built_refusal};
+ghost use Rattle.event_world.specs.Asked.{cut_target, count_by};
+ghost use Rattle.world_turns.specs.Asked.{blocked_by};
+ghost use Rattle.rss_machine.specs.Refusal.{refusal as refusal_of};
+ghost use Rattle.world_laws.specs.Numbered.{is_numbered};
+ghost use Rattle.world_laws.specs.Shapes.{IsSoundFile};
 ghost use Rattle.rss_machine.specs.Endings.{ending_of};
-ghost use Rattle.rss_machine.specs.Marks.{first_mark};
-ghost use Rattle.rss_machine.specs.Places.{stamp_of as stamp_in, session_key, register_key};
+ghost use Rattle.rss_machine.specs.Places.{session_key};
 ghost use Rattle.rss_machine.specs.ReportText.{count_at};
 ghost use Rattle.rss_machine.specs.Run.{run, steps_of, readings_of};
 ghost use Rattle.rss_machine.specs.Standing.{stage_state as stage_state_of};
-ghost use Rattle.rss_machine.specs.State.{owner_at, marks_at};
-ghost use Rattle.rss_machine.specs.Turns.{next_for, due_message};
-ghost use Rattle.rss_names.specs.declared.service.Key.{Key as Register};
-ghost use Rattle.rss_wire.specs.Messages.{envelope_at};
+ghost use Rattle.rss_machine.specs.State.{owner_at};
+ghost use Rattle.rss_machine.specs.Turns.{next_for as next_in, due_message};
+ghost use Rattle.rss_wire.specs.Messages.{envelope_at, request_at};
 ghost use Rattle.truetime.specs.Reading.{AreConsistent};
 
-use crate::machine::Machine;
-use carstamps::Carstamp;
+use call_places::place_key;
 use pipeline_lang::Config;
-use rss_machine::{Ending, Logged, OwnerFate, StageState, Step, StepRefusal};
+use rss_machine::{
+    Ending, Logged, OwnerFate, PlaceKey, StageState, Step, StepKind, StepRefusal, Turn,
+};
 use rss_model::Entry;
-use rss_names::{CallId, Key, ServiceId, StageId, Target};
+use rss_names::{CallId, ServiceId, StageId, Target};
 use rss_tables::Await;
-use rss_wire::Envelope;
+use rss_wire::{Envelope, Request};
 use std::alloc::{AllocError, Global};
 use std::marker::Model;
+use world_machine::Machine;
+use world_turns::{blocked, ending, next_for};
 
 /// The World makes steps one after another. Contracts see its configuration, the machine's state,
-/// the log, and whether there is room for one step more. Its state is always the run of its log.
+/// the log, and the step that there is room for. Its state is always the run of its log.
 pub struct World {
     machine: Machine,
     log: Vec<Logged>,
+    prepared: Option<Step>,
 }
 
 // Written out, so that a caller who lets a World go sees one call and none of its parts.
@@ -43,71 +47,88 @@ impl Drop for World {
         let World {
             machine: _machine,
             log: _log,
+            prepared: _prepared,
         } = self;
     }
 }
 
 impl Model for World {
-    ghost use Rattle.std.specs.Prelude.{◌+◌, ◌&&◌, nat_le, vec_len, vec_capacity};
+    ghost use Rattle.std.specs.Prelude.{vec_len, vec_capacity};
     ghost use Rattle.event_world.specs.World.{WorldView};
 
     ghost Value = { WorldView };
 
-    ghost use Rattle.event_world.specs.Machine.{state_of, has_room};
-    ghost use Rattle.event_world.specs.Kept.{IsKept};
+    ghost use Rattle.world_machine.specs.Machine.{state_of};
+    ghost use Rattle.event_world.specs.Kept.{IsWorld};
 
-    ghost view = { λ w. record { config = w.machine.config; state = state_of w.machine; log = w.log.items; room = has_room w.machine && nat_le (vec_len w.log + 1) (vec_capacity w.log) } };
+    ghost view = { λ w. record { config = w.machine.config; state = state_of w.machine; log = w.log.items; prepared = w.prepared } };
 
-    ghost invariant = { λ w. IsKept w.machine w.log.items };
+    ghost invariant = { λ w. IsWorld w.machine w.log.items (vec_capacity w.log) (vec_len w.log) w.prepared };
 }
 
 impl World {
-    /// The World before the first step of a file that is built.
+    /// The World before the first step of a file that is sound, as every file that is read.
+    #[tactic(auto, using(crate::proofs::Keeping::kept_new))]
     pub fn new(alloc: Global, config: Config) -> Result<World, AllocError>
-        requires built { IsTrue (is_built config) }
-        requires limit { config.max_steps ≤ 200000 }
+        requires file { IsSoundFile config }
         ensures { IfOk result (λ w. IsNew w config) }
     {
         let machine = Machine::new(alloc, config)?;
         Ok(World {
             machine,
             log: Vec::new(alloc),
+            prepared: None,
         })
     }
 
-    /// Makes room for a step. Where memory is wanting, nothing but room has changed.
-    pub fn make_room(&mut self, _s: &Step) -> Result<(), AllocError>
-        ensures room { OnOk result (IsTrue self.new.room) }
+    /// Makes room for a step, and forgets the one that there was room for. Where memory is wanting,
+    /// nothing but room has changed.
+    #[tactic(auto, using(crate::proofs::Keeping::ready, crate::proofs::Keeping::facts, crate::proofs::Keeping::can_ask, crate::proofs::Keeping::kept_room))]
+    pub fn make_room(&mut self, s: &Step) -> Result<(), AllocError>
+        ensures ready { OnOk result (self.new.prepared ≡ Some s.now) }
         ensures same { SameWorld self.old self.new }
     {
+        self.prepared = None;
         self.log.reserve(1)?;
-        self.machine.make_room()
+        // for its clauses alone: stages are numbered from 1
+        see_numbers(&s.kind);
+        if self.machine.refusal(s).is_none() {
+            machine_room::make_room(&mut self.machine, s)?;
+        }
+        self.prepared = Some(*s);
+        Ok(())
     }
 
-    /// Makes a step, or refuses it by the first cause that applies and changes nothing. Takes no
-    /// memory.
+    /// Makes the step that was prepared, or refuses it by the first cause that applies and changes
+    /// nothing. Takes no memory.
+    #[tactic(auto, using(crate::proofs::Keeping::ready, crate::proofs::Keeping::facts, crate::proofs::Keeping::can_ask, crate::proofs::Keeping::room_for, crate::proofs::Keeping::log_room, crate::proofs::Keeping::kept_more))]
     pub fn step(&mut self, s: &Step, driver: u8) -> Result<(), StepRefusal>
-        requires room { IsTrue self.old.room }
+        requires prepared { self.old.prepared ≡ Some s.now }
         ensures taken { OnOk result (Takes self.old self.new s.now driver) }
-        ensures allowed { OnOk result (built_refusal self.old.config self.old.state s.now ≡ None) }
-        ensures refused { IfErr result (λ e. built_refusal self.old.config self.old.state s.now ≡ Some e) }
+        ensures allowed { OnOk result (refusal_of self.old.config self.old.state s.now ≡ None) }
+        ensures spent { OnOk result (self.new.prepared ≡ None) }
+        ensures refused { IfErr result (λ e. refusal_of self.old.config self.old.state s.now ≡ Some e) }
         ensures unchanged { OnErr result (self.new ≡ self.old) }
     {
         if let Some(cause) = self.machine.refusal(s) {
             return Err(cause);
         }
         let at = s.at;
-        // for its clauses alone: the reading does not end before it begins
+        // for their clauses alone: the reading does not end before it begins, and stages are numbered
+        // from 1
         let _latest = at.latest();
+        see_numbers(&s.kind);
         self.machine.take(s);
         let logged = Logged { step: *s, driver };
         self.log.push(logged).unwrap();
+        self.prepared = None;
         Ok(())
     }
 
     /// Whether the step would be made.
+    #[tactic(auto, using(crate::proofs::Keeping::can_ask))]
     pub fn enabled(&self, s: &Step) -> bool
-        ensures { IsTrue result ↔ (built_refusal self.now.config self.now.state s.now ≡ None) }
+        ensures { IsTrue result ↔ (refusal_of self.now.config self.now.state s.now ≡ None) }
     {
         self.machine.refusal(s).is_none()
     }
@@ -133,14 +154,15 @@ impl World {
     pub fn history(&self) -> &[Entry]
         ensures { result.now ≡ self.now.state.history }
     {
-        self.machine.history.as_slice()
+        self.machine.staging.history()
     }
 
     /// How the run stands.
+    #[tactic(auto, using(crate::proofs::Keeping::can_tell))]
     pub fn ending(&self) -> Ending
         ensures { result ≡ ending_of self.now.config self.now.state }
     {
-        self.machine.ending()
+        ending(&self.machine)
     }
 
     /// The configuration that the World was made with.
@@ -151,11 +173,12 @@ impl World {
     }
 
     /// How many stages the file has, at most sixteen.
+    #[tactic(auto, using(crate::proofs::Keeping::few_stages))]
     pub fn stages(&self) -> u8
         ensures same { result ≡ length self.now.state.stages }
         ensures few { result ≤ 16 }
     {
-        self.machine.stages.len() as u8
+        self.machine.staging.stage_count() as u8
     }
 
     /// How a stage stands; one that the file lacks is unborn.
@@ -166,34 +189,41 @@ impl World {
     }
 
     /// What a stage waits for, if its turn is to wait.
+    #[tactic(auto, using(crate::proofs::Keeping::can_tell))]
     pub fn blocked(&self, stage: StageId) -> Option<Await>
-        ensures { result ≡ blocked_by (next_for self.now.config self.now.state stage) }
+        ensures { result ≡ blocked_by (next_in self.now.config self.now.state stage) }
     {
-        self.machine.blocked(stage)
+        blocked(&self.machine, stage)
     }
 
-    /// How many fences of a service were planned: none, as long as no stage uses two services.
+    /// The next step of a stage, or why it has none.
+    #[tactic(auto, using(crate::proofs::Keeping::can_tell))]
+    pub fn next_for(&self, stage: StageId) -> Turn
+        ensures { result ≡ next_in self.now.config self.now.state stage }
+    {
+        next_for(&self.machine, stage)
+    }
+
+    /// How many fences of a service were planned.
     pub fn planned(&self, service: ServiceId) -> u32
         ensures { result ≡ count_at (place_of service) self.now.state.planned }
     {
-        // the clause alone speaks of them
-        let _ = service;
-        let _ = &self.machine;
-        0
+        planned_of(&self.machine.traffic.planned(), service)
     }
 
     /// How many calls have begun. They are numbered from 1.
+    #[tactic(auto, using(crate::proofs::Keeping::few_owners))]
     pub fn calls(&self) -> u32
         ensures { result + 1 ≡ length self.now.state.owners }
     {
-        self.machine.owners.len() as u32
+        self.machine.traffic.begun() as u32
     }
 
     /// How a call stands.
     pub fn fate(&self, call: CallId) -> OwnerFate
         ensures { result ≡ (owner_at self.now.state call).fate }
     {
-        self.machine.fate(call)
+        self.machine.fate(call.number())
     }
 
     /// The target whose cut ended an owner as unavailable: Some exactly where it ended so. An owner is
@@ -201,7 +231,7 @@ impl World {
     pub fn unavailable(&self, owner: u32) -> Option<Target>
         ensures { result ≡ cut_target (owner_at self.now.state owner).fate }
     {
-        self.machine.unavailable(owner)
+        cut_off_from(self.machine.fate(owner))
     }
 
     /// The outside of a message. None exactly where no message of this number was sent.
@@ -216,47 +246,31 @@ impl World {
     pub fn due(&self, stage: StageId) -> Option<Envelope>
         ensures { result ≡ due_message stage self.now.state.net }
     {
-        self.machine.net.due(stage)
+        self.machine.due(stage)
     }
 
-    /// The register and stamp of a call: Some exactly where some replica has handled its store, or
-    /// the read has ended. A call without one is not placed.
-    pub fn stamp_of(&self, call: CallId) -> Option<(Key, Carstamp)>
-        ensures same { result ≡ stamp_in self.now.state call }
-        ensures unplaced { IfNone result (session_key self.now.state call (owner_at self.now.state call).session ≡ None) }
+    /// A request's contents. None exactly where no request of this number was sent.
+    pub fn request(&self, number: u32) -> Option<&Request>
+        ensures { option_copied result ≡ request_at self.now.state.net number }
     {
-        self.machine.stamp_of(call)
+        self.machine.traffic.request(number)
     }
 
-    /// Whether a call reads, which decides on its place where it has one.
-    pub fn is_read(&self, call: CallId) -> bool
-        ensures { (stamped : Register × Stamp) → stamp_in self.now.state call ≡ Some stamped →
-            session_key self.now.state call (owner_at self.now.state call).session ≡ Some (register_key self.now.state call result stamped) }
+    /// The key by which a call is placed in the one legal order, and None exactly where it is not placed.
+    #[tactic(auto, using(crate::proofs::Keeping::place_facts, crate::proofs::Keeping::few_moments, crate::proofs::Keeping::steps_low))]
+    pub fn place_key(&self, call: CallId) -> Option<PlaceKey>
+        ensures { result ≡ session_key self.now.state call (owner_at self.now.state call).session }
     {
-        self.machine.is_read(call)
-    }
-
-    /// The number of the step that sent a call's own first round; 0 where there is no such call.
-    pub fn launched(&self, call: CallId) -> u32
-        ensures { result ≡ (owner_at self.now.state call).dates.launched }
-    {
-        self.machine.launched(call)
-    }
-
-    /// The first step after which a majority of the replicas held this stamp or a greater one, or
-    /// None where none has.
-    pub fn majority_step(&self, key: Key, stamp: Carstamp) -> Option<u32>
-        ensures { result ≡ first_mark (marks_at self.now.state key) stamp }
-    {
-        self.machine.registers.majority_step(key, stamp)
+        place_key(&self.machine, call)
     }
 
     /// The number of steps made, which is the length of the log; at most 200,000.
+    #[tactic(auto, using(crate::proofs::Keeping::few_steps))]
     pub fn steps(&self) -> u32
         ensures same { result ≡ self.now.state.steps }
         ensures few { result ≤ 200000 }
     {
-        self.machine.steps
+        self.machine.steps()
     }
 }
 
@@ -271,4 +285,51 @@ fn steps_of_driver(log: &[Logged], driver: u8) -> usize
         }
     }
     made
+}
+
+// For its clause alone: a step names a stage by its number from 1.
+fn see_numbers(kind: &StepKind)
+    ensures { is_numbered kind.now ≡ true }
+{
+    match kind {
+        StepKind::Act(stage) => see_number(*stage),
+        StepKind::Kill(stage) => see_number(*stage),
+        StepKind::Stub(stage) => see_number(*stage),
+        StepKind::Go(_) => {}
+        StepKind::Lose(_) => {}
+        StepKind::Again(_) => {}
+    }
+}
+
+// For its clause alone: stages are numbered from 1.
+fn see_number(stage: StageId)
+    ensures { 1 ≤ stage }
+{
+    let _ = stage.number();
+}
+
+// The target from which an owner of this fate was cut off.
+fn cut_off_from(fate: OwnerFate) -> Option<Target>
+    ensures { result ≡ cut_target fate }
+{
+    match fate {
+        OwnerFate::CutOff(target) => Some(target),
+        OwnerFate::Running => None,
+        OwnerFate::Ended => None,
+        OwnerFate::Dropped => None,
+    }
+}
+
+// How many fences of a service were planned, by its place in the order of services.
+fn planned_of(planned: &[u32; 16], service: ServiceId) -> u32
+    ensures { result ≡ count_at (place_of service) planned.now }
+{
+    let (first, number) = match service {
+        ServiceId::Txn(number) => (0, number),
+        ServiceId::Reg(number) => (8, number),
+    };
+    if number == 0 || number > 8 {
+        return 0;
+    }
+    planned[first + (number as usize - 1)]
 }

@@ -1,7 +1,6 @@
 -- Room for acts and steps, put together.
-use Rattle.std.proofs.Common.{◌≡◌, ℕ, ◌+◌, ◌<◌, ◌≤◌, true, false, true≢false, List, Option, Some, None, refl, sym, ap, ◌∙◌, subst, arith, vec_len, vec_capacity, length}
+use Rattle.std.proofs.Common.{◌≡◌, ℕ, ◌+◌, ◌<◌, ◌≤◌, true, List, Option, Some, None, refl, sym, ap, ◌∙◌, subst, arith, vec_len, vec_capacity, length}
 use Rattle.std.proofs.lemmas.Bool.Decides.{nat_tests}
-use Rattle.std.specs.Prelude.{nat_lt, ⊤}
 use Rattle.std.specs.Option.{option_map}
 use Rattle.pipeline_lang.specs.Config.{statement_at}
 use Rattle.pipeline_lang.specs.declared.config.Config.{Config}
@@ -43,7 +42,7 @@ use Rattle.world_machine.specs.Rooms.{StatementRoom}
 use Rattle.world_machine.specs.Ready.{IsReady, HasFacts}
 use Rattle.world_machine.specs.StepRooms.{HasRoom}
 use Rattle.machine_room.specs.Steady.{ActIn, KindIn}
-use Rattle.world_machine.proofs.Allowed.{IsAllowed, allowed_parts}
+use Rattle.world_machine.proofs.Allowed.{allowed_parts}
 use Rattle.world_machine.proofs.Counted.{act_live, live_there, next_same}
 use Rattle.world_machine.proofs.Sent.{deliver_sent, again_sent, lose_sent}
 use Rattle.machine_room.proofs.Stepping.{has_room}

@@ -1,23 +1,21 @@
 -- Room that was made for a statement is room for it behind the count of the act.
-use Rattle.std.proofs.Common.{◌≡◌, ℕ, ◌+◌, ◌-◌, false, true≢false, Option, Some, None, refl, sym, ap, ◌∙◌, subst}
-use Rattle.causal_context.specs.Seen.{Seen, context_joined, nothing_seen}
+use Rattle.std.proofs.Common.{◌≡◌, ℕ, ◌+◌, true≢false, Option, Some, None, refl, sym, ap, ◌∙◌, subst}
+use Rattle.causal_context.specs.Seen.{Seen, context_joined}
 use Rattle.pipeline_lang.specs.declared.script.Statement.TheVariants as statement
 use Rattle.pipeline_stage.specs.Marks.{lying}
 use Rattle.truetime.specs.Reading.{Reading}
 use Rattle.rss_model.specs.CallStatement.{op_of_statement}
 use Rattle.rss_model.specs.Cursor.{NumberedStatement}
-use Rattle.rss_model.specs.declared.op.Op.{Op}
 use Rattle.rss_machine.specs.Enabling.{next_statement}
 use Rattle.rss_machine.specs.Standing.{exit_context, exit_context_of}
-use Rattle.rss_machine.specs.State.{State, Stage, owner_at}
-use Rattle.world_parts.specs.Parts.{Clock as Part, Staging, stage_in, pipe_in}
-use Rattle.world_stages.specs.Readies.{IsReady, IsReadyFor, joined_if}
-use Rattle.world_stages.specs.View.{StagingView}
+use Rattle.rss_machine.specs.State.{Stage}
+use Rattle.world_parts.specs.Parts.{Clock as Part, stage_in, pipe_in}
+use Rattle.world_stages.specs.Readies.{IsReady, joined_if}
 use Rattle.world_machine.specs.declared.clock.Clock.{Clock}
 use Rattle.world_machine.specs.declared.machine.Machine.{Machine}
 use Rattle.world_machine.specs.Acts.{counted}
 use Rattle.machine_room.specs.Ahead.{ahead_of, CallIn, AheadIn}
-use Rattle.world_machine.specs.Beginning.{NextIs, CallRoom, CanBegin, FenceStart, call_owner, fence_owner}
+use Rattle.world_machine.specs.Beginning.{NextIs, CanBegin, FenceStart, call_owner, fence_owner}
 use Rattle.world_machine.specs.Clock.{clock_in, ticked}
 use Rattle.world_machine.specs.Ending.{FenceRoom}
 use Rattle.rss_machine.specs.declared.session.OwnerKind.TheVariants as kind

@@ -1,13 +1,12 @@
 -- Room that was made is room for the step.
-use Rattle.std.proofs.Common.{◌≡◌, ℕ, ◌+◌, ◌-◌, ◌<◌, ◌≤◌, ◌^◌, length, List, Option, Some, None, refl, sym, ap, ◌∙◌, subst, arith, vec_len, vec_capacity}
-use Rattle.std.specs.Prelude.{is_some, IsSome, ⊤}
-use Rattle.causal_context.specs.Seen.{Seen, fenced_outside}
+use Rattle.std.proofs.Common.{◌≡◌, ℕ, ◌+◌, ◌-◌, ◌<◌, ◌≤◌, ◌^◌, Option, Some, refl, sym, ap, ◌∙◌, subst, vec_len, vec_capacity}
+use Rattle.std.specs.Prelude.{is_some}
+use Rattle.causal_context.specs.Seen.{Seen}
 use Rattle.pipeline_lang.specs.declared.config.Config.{Config}
 use Rattle.pipeline_stage.specs.CopiesView.{AreCopies}
 use Rattle.truetime.specs.Reading.{Reading}
-use Rattle.rss_wire.specs.Messages.{message_at, reply_at}
+use Rattle.rss_wire.specs.Messages.{message_at}
 use Rattle.rss_machine.specs.Calls.{fenced_context}
-use Rattle.rss_machine.specs.Slots.{slot_in}
 use Rattle.rss_machine.specs.State.{Stage, Owner, stage_at}
 use Rattle.rss_machine.specs.declared.session.OwnerKind.{OwnerKind}
 use Rattle.rss_machine.specs.declared.session.OwnerKind.TheVariants as kind
@@ -16,8 +15,7 @@ use Rattle.rss_machine.specs.declared.step.StepKind.{StepKind}
 use Rattle.rss_machine.specs.declared.step.StepKind.TheVariants.{Act, Go, Lose, Again, Kill, Stub}
 use Rattle.rss_machine.specs.Effect.{waking_line}
 use Rattle.turn_laws.specs.Turns.{lines_in}
-use Rattle.world_parts.specs.Parts.{Clock as Part, Staging, stage_in, owner_in}
-use Rattle.world_stages.specs.Readies.{IsReady, HasNumbers}
+use Rattle.world_parts.specs.Parts.{Clock as Part, stage_in, owner_in}
 use Rattle.world_stages.specs.View.{StagingView}
 use Rattle.world_traffic.specs.Turned.{said_in}
 use Rattle.world_traffic.specs.View.{TrafficView, IsQuiet}
@@ -25,10 +23,9 @@ use Rattle.world_machine.specs.declared.clock.Clock.{Clock}
 use Rattle.world_machine.specs.declared.machine.Machine.{Machine}
 use Rattle.world_machine.specs.Acts.{counted}
 use Rattle.world_machine.specs.Clock.{clock_in, ticked}
-use Rattle.world_machine.specs.Ending.{FenceRoom, StubRoom}
-use Rattle.world_machine.specs.Hearing.{ListenRoom, ComeRoom}
+use Rattle.world_machine.specs.Hearing.{ComeRoom}
 use Rattle.world_machine.specs.Machine.{state_of}
-use Rattle.machine_room.specs.Prepared.{KindRoom, EndsRoom, TurnIn, TurnIf, HearIn, ComeIn, LossIn}
+use Rattle.machine_room.specs.Prepared.{KindRoom, EndsRoom, TurnIn, TurnIf, ComeIn, LossIn}
 use Rattle.world_machine.specs.Rooms.{DeathIn}
 use Rattle.world_machine.specs.StepRooms.{ActRoom, LossRoom, SettleRoom, StepRoom, HasRoom}
 use Rattle.machine_room.specs.Steady.{ActIn, KindIn}

@@ -1,5 +1,5 @@
 -- What a stage's next statement needs, in short.
-use Rattle.std.specs.Prelude.{◌≡◌, ℕ, Option, Some}
+use Rattle.std.specs.Prelude.{◌≡◌, ℕ, Some}
 use Rattle.causal_context.specs.Seen.{nothing_seen}
 use Rattle.pipeline_lang.specs.declared.script.Statement.TheVariants as statement
 use Rattle.truetime.specs.Reading.{Reading}

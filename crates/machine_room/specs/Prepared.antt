@@ -1,10 +1,10 @@
 -- Room that is made before a step.
-use Rattle.std.specs.Prelude.{◌≡◌, ℕ, ◌+◌, ◌<◌, ◌≤◌, ⊤, true, false, Option, Some, None, IsSome, is_some}
+use Rattle.std.specs.Prelude.{◌≡◌, ℕ, ◌<◌, ◌≤◌, ⊤, true, false, Option, Some, None, IsSome, is_some}
 use Rattle.causal_context.specs.Seen.{Seen}
 use Rattle.pipeline_lang.specs.declared.config.Config.{Config}
 use Rattle.truetime.specs.Reading.{Reading}
 use Rattle.rss_wire.specs.declared.envelope.Envelope.{Envelope}
-use Rattle.rss_wire.specs.Messages.{message_at, request_at, reply_at}
+use Rattle.rss_wire.specs.Messages.{request_at, reply_at}
 use Rattle.rss_wire.specs.declared.messages.Request.{Request}
 use Rattle.rss_machine.specs.Slots.{slot_in}
 use Rattle.rss_machine.specs.Session.{left_unsettled}
@@ -13,7 +13,7 @@ use Rattle.rss_machine.specs.declared.session.OwnerKind.{OwnerKind}
 use Rattle.rss_machine.specs.declared.session.OwnerKind.TheVariants as kind
 use Rattle.owner_turns.specs.Whole.{KindFits}
 use Rattle.world_laws.specs.Calls.{is_stub}
-use Rattle.world_parts.specs.Parts.{Traffic, stage_in, owner_in}
+use Rattle.world_parts.specs.Parts.{Traffic, owner_in}
 use Rattle.world_stores.specs.StoresView.{StoresView, is_ready_for}
 use Rattle.world_stages.specs.View.{StagingView}
 use Rattle.world_traffic.specs.Turned.{said_in}

@@ -1,97 +1,72 @@
-//! Owners as a machine calls them.
+//! Owners of messages: their losses, and the fences that they go through.
 
-use gryff_quorum::RegSession;
-use register_context::RegisterContext;
-use rss_names::{Key, ReplicaId, Seq, ServiceId, StageId, Target};
-use rss_tables::{RegEnd, RegWork};
-use rss_wire::{Net, Outbox, Reply, Request};
-use stage_machine::StageCall;
+use carstamps::Carstamp;
+use causal_context::{Context, Dep};
+use owner_turns::Owner;
+use rss_names::{Key, ReplicaId, ServiceId, StageId, Target};
+use session_stub::{Next, Plan, Works};
 use std::alloc::AllocError;
 use std::test::Fail;
-use world_owners::Owner;
+use truetime::Interval;
 
 const X: Key = Key {
     service: ServiceId::Reg(1),
     index: 0,
 };
 
-// Whether an owner awaits the reply of this replica in an exchange.
-fn is_awaited(owner: &Owner, exchange: u32, replica: ReplicaId) -> bool {
-    match owner.awaited(exchange) {
-        Some(awaited) => awaited.number() == replica.number(),
-        None => false,
-    }
-}
-
-#[test]
-fn a_replica_that_is_cut_off_is_awaited_no_more(rt: HostRuntime) -> Result<(), Fail> {
-    let stage = StageId::new(1).ok_or(AllocError)?;
-    let first = ReplicaId::new(1).ok_or(AllocError)?;
-    let third = ReplicaId::new(3).ok_or(AllocError)?;
-    let mut owner = Owner::call(stage, StageCall::Read(X), RegisterContext::empty(), 4);
-    let mut net = Net::new(rt.alloc());
-    net.make_room(2)?;
-    let lost = net.ask(
-        1,
-        stage,
-        Target::Replica(X.service, first),
-        Request::Ask { key: X },
-    );
-    let other = net.ask(
-        1,
-        stage,
-        Target::Replica(X.service, third),
-        Request::Ask { key: X },
-    );
-    owner.await_reply(first, lost);
-    owner.await_reply(third, other);
-    assert!(rt; is_awaited(&owner, lost, first));
-    owner.cut_off(&net, X.service, first);
-    assert!(rt; owner.awaited(lost).is_none());
-    assert!(rt; is_awaited(&owner, other, third));
-    Ok(())
-}
-
 #[test]
 fn a_target_is_cut_off_at_the_last_try(rt: HostRuntime) -> Result<(), Fail> {
+    let alloc = rt.alloc();
     let stage = StageId::new(1).ok_or(AllocError)?;
     let replica = ReplicaId::new(2).ok_or(AllocError)?;
-    let mut owner = Owner::stub(stage, RegisterContext::empty(), 4);
-    assert_eq!(rt;
-        owner.count_loss(Target::Replica(X.service, replica), 2),
-        false
-    );
-    assert_eq!(rt;
-        owner.count_loss(Target::Replica(X.service, replica), 2),
-        true
-    );
-    assert_eq!(rt; owner.losses_of(Target::Replica(X.service, replica)), 2);
-    let cut = owner.cut_replicas(2, X.service);
-    assert_eq!(rt; (cut[0], cut[1], cut[2]), (false, true, false));
-    assert_eq!(rt; owner.quorum_lost(2, X.service, 3), false);
-    assert_eq!(rt; owner.quorum_lost(2, X.service, 1), true);
+    let mut owner = Owner::stub(alloc, stage, None, Context::empty(alloc), 4);
+    let first = owner.count_loss(Target::Replica(X.service, replica), 2);
+    let second = owner.count_loss(Target::Replica(X.service, replica), 2);
+    let losses = owner.losses_of(Target::Replica(X.service, replica));
+    let lost_of_three = owner.quorum_lost(2, X.service, 3);
+    let lost_of_one = owner.quorum_lost(2, X.service, 1);
+    assert_eq!(rt; (first, second), (false, true));
+    assert_eq!(rt; losses, 2);
+    assert_eq!(rt; (lost_of_three, lost_of_one), (false, true));
     Ok(())
 }
 
 #[test]
 fn a_call_ends_its_round_of_dependencies(rt: HostRuntime) -> Result<(), Fail> {
-    let stage = StageId::new(1).ok_or(AllocError)?;
-    let replica = ReplicaId::new(1).ok_or(AllocError)?;
-    let mut out = Outbox::new(rt.alloc());
-    out.make_room(7)?;
-    let mut owner = Owner::call(stage, StageCall::Read(X), RegisterContext::empty(), 4);
-    let rounds = RegSession::new(
-        1,
-        RegWork::Fix(Seq::new(rt.alloc())),
-        X.service,
-        1,
-        [false; 7],
-    );
-    owner.fix(rounds);
-    assert_eq!(rt; owner.is_fixing(), true);
-    owner.hear(replica, &Reply::Fixed, &mut out);
-    assert!(rt; matches!(owner.result(), Some(RegEnd::Fixed)));
-    owner.clear();
-    assert!(rt; owner.result().is_none());
+    let alloc = rt.alloc();
+    let mut seen = Context::empty(alloc);
+    seen.reserve(1)?;
+    let dep = Dep {
+        key: X,
+        value: 5,
+        stamp: Carstamp::ZERO,
+        writer: 1,
+    };
+    seen.after_read(X.service, Some(dep));
+    let plan = Plan::for_service(alloc, &seen, ServiceId::Txn(1))?;
+    let mut works = Works::planned(seen, plan);
+    let at = Interval::new(10, 14).ok_or(AllocError)?;
+    assert!(rt; matches!(works.pass(at), Next::Fix(ServiceId::Reg(1))));
+    assert_eq!(rt; works.copy().deps().len(), 1);
+    works.end_first();
+    assert!(rt; matches!(works.pass(at), Next::Over));
+    assert_eq!(rt; works.copy().deps().len(), 0);
+    assert_eq!(rt; works.enters(), true);
+    Ok(())
+}
+
+#[test]
+fn a_fence_waits_until_its_time_has_passed(rt: HostRuntime) -> Result<(), Fail> {
+    let alloc = rt.alloc();
+    let mut seen = Context::empty(alloc);
+    seen.after_txn(ServiceId::Txn(1), 20);
+    let plan = Plan::all(alloc, &seen)?;
+    let mut works = Works::planned(seen, plan);
+    let early = Interval::new(20, 24).ok_or(AllocError)?;
+    let late = Interval::new(21, 25).ok_or(AllocError)?;
+    assert!(rt; matches!(works.pass(early), Next::Waits(20)));
+    assert_eq!(rt; works.wait(), Some(20));
+    assert!(rt; matches!(works.pass(late), Next::Over));
+    assert_eq!(rt; works.enters(), false);
     Ok(())
 }

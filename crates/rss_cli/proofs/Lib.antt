@@ -1,5 +1,6 @@
 pub mod Plays
-pub mod OneWord
 pub mod Sums
+pub mod Gens
 pub mod Promised
 pub mod Answered
+pub mod Again

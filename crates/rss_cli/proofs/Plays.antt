@@ -3,7 +3,7 @@ use Rattle.std.proofs.Common.{◌≡◌, ℕ, ◌+◌, ◌<◌, ◌≤◌, List,
 use Rattle.std.proofs.lemmas.Grind.{common_steps}
 use Rattle.pipeline_lang.specs.declared.config.Config.{Config}
 use Rattle.truetime.specs.Reading.{AreConsistent}
-use Rattle.rss_machine.specs.Built.{built_refusal}
+use Rattle.rss_machine.specs.Refusal.{refusal}
 use Rattle.rss_machine.specs.Run.{run, steps_of, readings_of}
 use Rattle.rss_machine.specs.declared.step.Step.{Step}
 use Rattle.rss_machine.specs.declared.step.Logged.{Logged}
@@ -12,7 +12,7 @@ use Rattle.event_world.specs.World.{WorldView}
 use Rattle.rss_cli.specs.Played.{replayed, HasPlayed, IsFirstRefused}
 
 -- the steps of a replayed list are that list
-steps_replayed : (steps : List Step) → steps_of (replayed steps) ≡ steps
+pub steps_replayed : (steps : List Step) → steps_of (replayed steps) ≡ steps
 steps_replayed [] = refl
 steps_replayed (step ∷ steps) = ap (λ (rest : List Step). step ∷ rest) (steps_replayed steps)
 
@@ -32,7 +32,7 @@ split_at : (steps : List Step) (i : ℕ) (step : Step) → i < length steps → 
 split_at steps i step inside at = grind (arith, common_steps)
 
 -- the step at a position is the first one refused
-pub first_refused : (c : Config) (steps : List Step) (i : ℕ) (step : Step) (w : WorldView) (cause : StepRefusal) → i < length steps → step ≡ get_or steps i step → w.config ≡ c → w.log ≡ replayed (take i steps) → run w.config (steps_of w.log) ≡ Some w.state → built_refusal w.config w.state step ≡ Some cause → IsFirstRefused c steps (i + 1) cause
+pub first_refused : (c : Config) (steps : List Step) (i : ℕ) (step : Step) (w : WorldView) (cause : StepRefusal) → i < length steps → step ≡ get_or steps i step → w.config ≡ c → w.log ≡ replayed (take i steps) → run w.config (steps_of w.log) ≡ Some w.state → refusal w.config w.state step ≡ Some cause → IsFirstRefused c steps (i + 1) cause
 first_refused c steps i step w cause inside at same log runs refused = record {
   front = take i steps;
   step = step;

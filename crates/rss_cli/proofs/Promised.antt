@@ -5,9 +5,11 @@ use Rattle.std.proofs.lemmas.List.Elements.{All-cons, All-nil}
 use Rattle.std.specs.Prelude.{nat_lt}
 use Rattle.pipeline_lang.specs.declared.config.Config.{Config}
 use Rattle.pipeline_file.specs.Document.{config_of}
+use Rattle.policy_laws.proofs.Proper.{serial_proper}
 use Rattle.promise_laws.proofs.Promised.{promised_run}
 use Rattle.rss_machine.specs.Headline.{KeepsPromise}
 use Rattle.rss_machine.specs.Run.{run, readings_of}
+use Rattle.rss_machine.specs.Serial.{serial}
 use Rattle.rss_machine.specs.State.{State}
 use Rattle.rss_machine.specs.declared.step.Step.{Step}
 use Rattle.rss_machine.specs.declared.step.StepKind.{StepKind}
@@ -56,3 +58,7 @@ numbered (step ∷ steps) g =
 -- what every reported run owes, of steps of the grammar over a file that is read
 pub keeps_promise : (c : Config) (steps : List Step) (s : State) → IsSoundFile c → All IsStep steps → run c steps ≡ Some s → KeepsPromise c steps
 keeps_promise c steps s f g e = promised_run c steps s f (ordered steps g) (numbered steps g) e
+
+-- and so does that of the serial policy
+pub policy_keeps_promise : (c : Config) (s : State) → IsSoundFile c → run c (serial c) ≡ Some s → KeepsPromise c (serial c)
+policy_keeps_promise c s f e = let p = serial_proper c in promised_run c (serial c) s f p.ordered p.numbered e

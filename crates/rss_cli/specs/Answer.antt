@@ -1,11 +1,11 @@
 -- What the top call answers: which text and status, for which words and input.
-use Rattle.std.specs.Prelude.{ℕ, ◌≡◌, ◌≢◌, ◌<◌, ◌≤◌, ◌⊎◌, Bool, true, false, List, [], ◌∷◌, length, Option, Ok, Err, All, codes}
+use Rattle.std.specs.Prelude.{ℕ, ◌≡◌, ◌<◌, ◌≤◌, ◌⊎◌, Bool, true, false, List, [], ◌∷◌, length, Option, Ok, Err, All, codes}
 use Rattle.std.specs.Io.KnownBytes.{Appends, Keeps}
 use Rattle.rss_io.specs.Pieces.{AppendsFront}
 use Rattle.pipeline_lang.specs.declared.config.Config.{Config}
-use Rattle.rss_machine.specs.Built.{is_built}
 use Rattle.rss_machine.specs.Endings.{ending_of}
 use Rattle.rss_machine.specs.Headline.{KeepsPromise}
+use Rattle.rss_machine.specs.Serial.{serial}
 use Rattle.rss_machine.specs.declared.step.Step.{Step}
 use Rattle.rss_machine.specs.declared.step.StepRefusal.{StepRefusal}
 use Rattle.step_text.specs.Spelling.{IsStep, text_of}
@@ -13,19 +13,26 @@ use Rattle.step_text.specs.Texts.{IsBadStep}
 use Rattle.rss_cli.specs.FaultText.{fault_text}
 use Rattle.rss_cli.specs.Played.{IsFirstRefused}
 use Rattle.rss_cli.specs.Reported.{IsReport}
-use Rattle.rss_cli.specs.Split.{Splits}
+use Rattle.input_parts.specs.Split.{Splits}
 use Rattle.rss_cli.specs.Statuses.{status_of}
+use Rattle.command_words.specs.Generated.{IsNoGen}
+use Rattle.command_words.specs.Words.{IsCalled, IsCommand}
+use Rattle.command_words.specs.declared.command.Command.{Command}
+use Rattle.command_words.specs.declared.command.Command.TheVariants as command
+use Rattle.command_words.specs.declared.command.Form.{Form}
+use Rattle.ending_laws.specs.Laws.{IsCalm, AreUnhurt}
+use Rattle.rss_cli.specs.Generated.{IsGenerated}
 use Rattle.rss_cli.specs.declared.fault.Fault.TheVariants as fault
 use Rattle.pipeline_tables.specs.declared.fault.FileFault.{FileFault}
 use Rattle.pipeline_file.specs.Document.{config_of}
 use Rattle.rss_cli.specs.declared.status.Status.{Status}
 use Rattle.rss_cli.specs.declared.status.Status.TheVariants.{Done, Unfinished, Limit, Stuck, Hurt, Usage, File, BadStep, ReadFault, WriteFault, OutOfMemory}
 
--- the text reports the state that these steps lead to, the run keeps what every reported run owes, and the
--- status is the ending's
-pub record IsReported (c : Config) (steps : List Step) (text : List ℕ) (status : Status) : Type 0 where
+-- the text tells of the state that these steps lead to, in a form, the run keeps what every reported run owes,
+-- and the status is the ending's
+pub record IsReported (form : Form) (c : Config) (steps : List Step) (text : List ℕ) (status : Status) : Type 0 where
   pub promise : KeepsPromise c steps
-  pub report : IsReport c promise.state text
+  pub report : IsReport form c promise.state steps text
   pub ending : status ≡ status_of (ending_of c promise.state)
 
 -- the text names the first of these steps that the machine refuses, with the cause
@@ -37,15 +44,15 @@ pub record IsRefusedStep (c : Config) (steps : List Step) (text : List ℕ) (sta
   pub status_is : status ≡ BadStep
 
 -- the answer to a list of steps
-abbrev pub IsPlayed : Config → List Step → List ℕ → Status → Type 0
-IsPlayed c steps text status = IsReported c steps text status ⊎ IsRefusedStep c steps text status
+abbrev pub IsPlayed : Form → Config → List Step → List ℕ → Status → Type 0
+IsPlayed form c steps text status = IsReported form c steps text status ⊎ IsRefusedStep c steps text status
 
 -- the step text spells these steps, each of which the grammar has, and they were played
-pub record IsSpelled (c : Config) (behind text : List ℕ) (status : Status) : Type 0 where
+pub record IsSpelled (form : Form) (c : Config) (behind text : List ℕ) (status : Status) : Type 0 where
   pub steps : List Step
   pub grammar : All IsStep steps
   pub spelled : behind ≡ text_of steps
-  pub played : IsPlayed c steps text status
+  pub played : IsPlayed form c steps text status
 
 -- the text names the first line of the step text that is off the grammar
 pub record IsOffGrammar (behind text : List ℕ) (status : Status) : Type 0 where
@@ -56,29 +63,14 @@ pub record IsOffGrammar (behind text : List ℕ) (status : Status) : Type 0 wher
   pub status_is : status ≡ BadStep
 
 -- the answer to a step text
-abbrev pub IsStepsAnswer : Config → List ℕ → List ℕ → Status → Type 0
-IsStepsAnswer c behind text status = IsSpelled c behind text status ⊎ IsOffGrammar behind text status
-
--- the file is one that runs
-pub record IsBuiltFile (config : Config) (behind text : List ℕ) (status : Status) : Type 0 where
-  pub built : is_built config ≡ true
-  pub answer : IsStepsAnswer config behind text status
-
--- the file is valid, and does not run yet
-pub record IsNotBuilt (config : Config) (text : List ℕ) (status : Status) : Type 0 where
-  pub not_built : is_built config ≡ false
-  pub told : text ≡ fault_text fault.NotBuilt
-  pub status_is : status ≡ File
-
--- the answer to a configuration and the step text behind it
-abbrev pub IsConfigAnswer : Config → List ℕ → List ℕ → Status → Type 0
-IsConfigAnswer config behind text status = IsBuiltFile config behind text status ⊎ IsNotBuilt config text status
+abbrev pub IsStepsAnswer : Form → Config → List ℕ → List ℕ → Status → Type 0
+IsStepsAnswer form c behind text status = IsSpelled form c behind text status ⊎ IsOffGrammar behind text status
 
 -- the file says this configuration
-pub record IsValidFile (file behind text : List ℕ) (status : Status) : Type 0 where
+pub record IsValidFile (form : Form) (file behind text : List ℕ) (status : Status) : Type 0 where
   pub config : Config
   pub says : config_of file ≡ Ok config
-  pub answer : IsConfigAnswer config behind text status
+  pub answer : IsStepsAnswer form config behind text status
 
 -- the file has this fault first
 pub record IsFaultyFile (file text : List ℕ) (status : Status) : Type 0 where
@@ -98,25 +90,25 @@ pub record AreStepsTooLong (behind text : List ℕ) (status : Status) : Type 0 w
   pub status_is : status ≡ File
 
 -- the step text is no longer than its limit
-pub record IsFileAnswer (file behind text : List ℕ) (status : Status) : Type 0 where
+pub record IsFileAnswer (form : Form) (file behind text : List ℕ) (status : Status) : Type 0 where
   pub short : length behind ≤ steps_limit
-  pub answer : IsValidFile file behind text status ⊎ IsFaultyFile file text status
+  pub answer : IsValidFile form file behind text status ⊎ IsFaultyFile file text status
 
 -- the answer to a file and the step text behind it
-abbrev pub IsReplayed : List ℕ → List ℕ → List ℕ → Status → Type 0
-IsReplayed file behind text status = IsFileAnswer file behind text status ⊎ AreStepsTooLong behind text status
+abbrev pub IsReplayed : Form → List ℕ → List ℕ → List ℕ → Status → Type 0
+IsReplayed form file behind text status = IsFileAnswer form file behind text status ⊎ AreStepsTooLong behind text status
 
 -- the longest input: a file, the line `%steps`, and step text
 abbrev pub input_limit : ℕ
 input_limit = 17825799
 
 -- the input was read, and is no longer than its limit
-pub record IsRead (input text : List ℕ) (status : Status) : Type 0 where
+pub record IsRead (form : Form) (input text : List ℕ) (status : Status) : Type 0 where
   pub short : length input ≤ input_limit
   pub file : List ℕ
   pub behind : List ℕ
   pub parts : Splits input file behind
-  pub replayed : IsReplayed file behind text status
+  pub replayed : IsReplayed form file behind text status
 
 -- the input is longer than its limit
 pub record IsTooLong (input text : List ℕ) (status : Status) : Type 0 where
@@ -129,19 +121,44 @@ pub record IsUsageAnswer (text : List ℕ) (status : Status) : Type 0 where
   pub told : text ≡ fault_text fault.Usage
   pub status_is : status ≡ Usage
 
--- the words are no command
+-- the words are no command, and not `gen` with a number either
 pub record IsUsage (words : List (List ℕ)) (text : List ℕ) (status : Status) : Type 0 where
-  pub other : words ≢ codes "replay" ∷ []
+  pub other : IsCommand words → ⊥
+  pub no_gen : IsNoGen words
   pub answer : IsUsageAnswer text status
 
--- the words are the command that is built
-pub record IsReplay (words : List (List ℕ)) (input text : List ℕ) (status : Status) : Type 0 where
-  pub word : words ≡ codes "replay" ∷ []
-  pub answer : IsRead input text status ⊎ IsTooLong input text status
+-- the text tells of the state that the steps of the serial policy lead to; the run has come to its end, and where
+-- the file withholds nothing and kills nothing, no stage is killed or unavailable
+pub record IsWholeReport (form : Form) (c : Config) (text : List ℕ) (status : Status) : Type 0 where
+  pub reported : IsReported form c (serial c) text status
+  pub finished : status ≡ Unfinished → ⊥
+  pub unhurt : IsCalm c → AreUnhurt reported.promise.state
+
+-- the answer to a file by the steps of the serial policy
+pub record IsValidForPolicy (form : Form) (file text : List ℕ) (status : Status) : Type 0 where
+  pub config : Config
+  pub says : config_of file ≡ Ok config
+  pub answer : IsWholeReport form config text status
+
+-- the input was read, is no longer than its limit, and is a file alone
+pub record IsReadForPolicy (form : Form) (input text : List ℕ) (status : Status) : Type 0 where
+  pub short : length input ≤ input_limit
+  pub answer : IsValidForPolicy form input text status ⊎ IsFaultyFile input text status
+
+-- the answer of a command to an input that was read
+abbrev pub IsReadBy : Command → List ℕ → List ℕ → Status → Type 0
+IsReadBy (command.Replay form) input text status = IsRead form input text status
+IsReadBy (command.Serial form) input text status = IsReadForPolicy form input text status
+
+-- the words are this command
+pub record IsServed (words : List (List ℕ)) (input text : List ℕ) (status : Status) : Type 0 where
+  pub command : Command
+  pub called : IsCalled command words
+  pub answer : IsReadBy command input text status ⊎ IsTooLong input text status
 
 -- which text and status are the answer to these words and this input
 abbrev pub IsAnswer : List (List ℕ) → List ℕ → List ℕ → Status → Type 0
-IsAnswer words input text status = IsUsage words text status ⊎ IsReplay words input text status
+IsAnswer words input text status = IsUsage words text status ⊎ (IsServed words input text status ⊎ IsGenerated words text status)
 
 -- the whole text of the answer with this status was written
 pub record Told (old new : Option (List ℕ)) (words : List (List ℕ)) (input : List ℕ) (status : Status) : Type 0 where

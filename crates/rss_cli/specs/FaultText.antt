@@ -8,7 +8,7 @@ use Rattle.rss_wire.specs.declared.refusal.NetRefusal.TheVariants.{NoSuchMessage
 use Rattle.pipeline_tables.specs.FaultText.{fault_text as kind_and_place}
 use Rattle.pipeline_tables.specs.declared.fault.FileFault.{FileFault}
 use Rattle.rss_cli.specs.declared.fault.Fault.{Fault}
-use Rattle.rss_cli.specs.declared.fault.Fault.TheVariants.{Usage, File, TooLong, NotBuilt, OffGrammar, Refused}
+use Rattle.rss_cli.specs.declared.fault.Fault.TheVariants.{Usage, File, TooLong, OffGrammar, Refused}
 
 -- the line of a file's fault: its kind and its place
 abbrev pub file_text : FileFault → List ℕ
@@ -26,7 +26,6 @@ net_text AgainUsed = codes "AgainUsed"
 abbrev pub refusal_text : StepRefusal → List ℕ
 refusal_text cause.LogFull = codes "LogFull"
 refusal_text (cause.Reading found) = codes "Reading " ++ decimal found.greatest_earliest ++ codes " " ++ decimal found.latest
-refusal_text cause.NotBuilt = codes "NotBuilt"
 refusal_text cause.StageOver = codes "StageOver"
 refusal_text (cause.Message refusal) = codes "Message " ++ net_text refusal
 refusal_text cause.NotEnabled = codes "NotEnabled"
@@ -36,6 +35,5 @@ unfoldable pub fault_text : Fault → List ℕ
 fault_text Usage = codes "fault usage\n"
 fault_text (File fault) = file_text fault
 fault_text TooLong = codes "fault file OverLimit file\n"
-fault_text NotBuilt = codes "fault file NotBuilt file\n"
 fault_text (OffGrammar number column) = codes "fault step " ++ decimal number ++ codes " column " ++ decimal column ++ codes "\n"
 fault_text (Refused number cause) = codes "fault step " ++ decimal number ++ codes " " ++ refusal_text cause ++ codes "\n"

@@ -1,6 +1,7 @@
 pub mod Statuses
 pub mod FaultText
-pub mod Split
 pub mod Played
 pub mod Reported
+pub mod Generated
 pub mod Answer
+pub mod Again

@@ -3,7 +3,7 @@ use Rattle.std.specs.Prelude.{ℕ, ◌≡◌, ◌+◌, List, [], ◌∷◌, ◌+
 use Rattle.pipeline_lang.specs.declared.config.Config.{Config}
 use Rattle.truetime.specs.Reading.{AreConsistent}
 use Rattle.rss_machine.specs.State.{State}
-use Rattle.rss_machine.specs.Built.{built_refusal}
+use Rattle.rss_machine.specs.Refusal.{refusal}
 use Rattle.rss_machine.specs.Run.{run, readings_of}
 use Rattle.rss_machine.specs.declared.step.Step.{Step}
 use Rattle.rss_machine.specs.declared.step.Logged.{Logged}
@@ -37,7 +37,7 @@ pub record IsFirstRefused (c : Config) (steps : List Step) (number : ℕ) (cause
   pub steps_are : steps ≡ front ++ step ∷ rest
   pub number_is : number ≡ length front + 1
   pub runs : run c front ≡ Some state
-  pub refused : built_refusal c state step ≡ Some cause
+  pub refused : refusal c state step ≡ Some cause
 
 -- what an error says of the steps
 abbrev pub IsPlayError : Config → List Step → PlayError → Type 0

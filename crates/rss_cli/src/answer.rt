@@ -1,9 +1,9 @@
 //! Answers: the text and the status for an input, all made before the first byte is written.
 
-ghost use Rattle.std.specs.Prelude.{◌≡◌, ◌≤◌, true, false, IfOk, length, All};
-ghost use Rattle.rss_machine.specs.Built.{is_built};
+ghost use Rattle.std.specs.Prelude.{◌≡◌, ◌≤◌, true, IfOk, length, All};
 ghost use Rattle.rss_machine.specs.Endings.{ending_of};
-ghost use Rattle.rss_cli.specs.Answer.{IsRead, IsReplayed, IsPlayed, IsStepsAnswer, IsFileAnswer, IsConfigAnswer, IsNotBuilt, steps_limit, input_limit, is_answer};
+ghost use Rattle.rss_machine.specs.Run.{steps_of};
+ghost use Rattle.rss_cli.specs.Answer.{IsRead, IsReplayed, IsPlayed, IsStepsAnswer, IsFileAnswer, IsReadBy, IsReadForPolicy, IsWholeReport, steps_limit, input_limit, is_answer};
 ghost use Rattle.rss_cli.specs.FaultText.{fault_text};
 ghost use Rattle.rss_cli.specs.Reported.{IsReport};
 ghost use Rattle.rss_cli.specs.Statuses.{status_of};
@@ -13,16 +13,17 @@ ghost use Rattle.world_laws.specs.Shapes.{IsSoundFile};
 use crate::fault::Fault;
 use crate::fault_lines::fault_line;
 use crate::play::{PlayError, play};
-use crate::served::served;
-use crate::split::split;
 use crate::status::Status;
+use crate::telling::told;
+use command_words::{Command, Form};
 use event_world::World;
+use input_parts::split;
 use pipeline_file::{FileError, read};
 use pipeline_lang::Config;
 use rss_machine::Step;
+use serial_run::serial;
 use std::alloc::{AllocError, Global};
 use step_text::{StepTextError, read_steps};
-use world_report::report;
 
 /// The longest step text, in bytes.
 const LONGEST_STEPS: usize = 16_777_216;
@@ -34,75 +35,90 @@ pub struct Answer {
     pub text: Vec<u8>,
 }
 
-/// The answer to an input that is not too long.
-pub fn answer_of(alloc: Global, input: &[u8]) -> Result<Answer, AllocError>
-    requires { length input.now ≤ input_limit }
-    ensures answer { IfOk result (λ a. IsRead input.now a.text.items a.status) }
+/// The answer of a command to an input that is not too long.
+pub fn answer_of(alloc: Global, command: Command, input: &[u8]) -> Result<Answer, AllocError>
+    requires short { length input.now ≤ input_limit }
+    ensures answer { IfOk result (λ a. IsReadBy command input.now a.text.items a.status) }
     ensures status { IfOk result (λ a. is_answer a.status ≡ true) }
 {
-    let (file, behind) = split(input);
-    replayed(alloc, file, behind)
-}
-
-// The answer to a file and the step text behind it.
-fn replayed(alloc: Global, file: &[u8], behind: &[u8]) -> Result<Answer, AllocError>
-    ensures answer { IfOk result (λ a. IsReplayed file.now behind.now a.text.items a.status) }
-    ensures status { IfOk result (λ a. is_answer a.status ≡ true) }
-{
-    if behind.len() > LONGEST_STEPS {
-        fault_answer(alloc, Fault::TooLong, Status::File)
-    } else {
-        file_answer(alloc, file, behind)
+    match command {
+        Command::Replay(form) => replay_answer(alloc, form, input),
+        Command::Serial(form) => serial_answer(alloc, form, input),
     }
 }
 
-// The answer to a file and a step text that is not too long.
-fn file_answer(alloc: Global, file: &[u8], behind: &[u8]) -> Result<Answer, AllocError>
-    requires short { length behind.now ≤ steps_limit }
-    ensures answer { IfOk result (λ a. IsFileAnswer file.now behind.now a.text.items a.status) }
+// The answer to a file and the step text behind it, in one input.
+fn replay_answer(alloc: Global, form: Form, input: &[u8]) -> Result<Answer, AllocError>
+    requires short { length input.now ≤ input_limit }
+    ensures answer { IfOk result (λ a. IsRead form input.now a.text.items a.status) }
     ensures status { IfOk result (λ a. is_answer a.status ≡ true) }
 {
-    match read(alloc, file) {
-        Ok(config) => config_answer(alloc, config, behind),
+    let (file, behind) = split(input);
+    replayed(alloc, form, file, behind)
+}
+
+// The answer to a file, by the steps of the serial policy.
+fn serial_answer(alloc: Global, form: Form, input: &[u8]) -> Result<Answer, AllocError>
+    requires short { length input.now ≤ input_limit }
+    ensures answer { IfOk result (λ a. IsReadForPolicy form input.now a.text.items a.status) }
+    ensures status { IfOk result (λ a. is_answer a.status ≡ true) }
+{
+    match read(alloc, input) {
+        Ok(config) => policy_answer(alloc, form, config),
         Err(FileError::Fault(first)) => fault_answer(alloc, Fault::File(first), Status::File),
         Err(FileError::OutOfMemory) => Err(AllocError),
     }
 }
 
-// The answer to a configuration and the step text behind it.
-fn config_answer(alloc: Global, config: Config, behind: &[u8]) -> Result<Answer, AllocError>
+// The report of a configuration after the steps of the serial policy.
+fn policy_answer(alloc: Global, form: Form, config: Config) -> Result<Answer, AllocError>
     requires sound { IsSoundFile config }
-    requires short { length behind.now ≤ steps_limit }
-    ensures answer { IfOk result (λ a. IsConfigAnswer config behind.now a.text.items a.status) }
+    ensures answer { IfOk result (λ a. IsWholeReport form config a.text.items a.status) }
     ensures status { IfOk result (λ a. is_answer a.status ≡ true) }
 {
-    if served(&config) {
-        steps_answer(alloc, config, behind)
+    let world = serial(alloc, config)?;
+    report_answer(alloc, form, &world)
+}
+
+// The answer to a file and the step text behind it.
+fn replayed(alloc: Global, form: Form, file: &[u8], behind: &[u8]) -> Result<Answer, AllocError>
+    ensures answer { IfOk result (λ a. IsReplayed form file.now behind.now a.text.items a.status) }
+    ensures status { IfOk result (λ a. is_answer a.status ≡ true) }
+{
+    if behind.len() > LONGEST_STEPS {
+        fault_answer(alloc, Fault::TooLong, Status::File)
     } else {
-        not_built(alloc, &config)
+        file_answer(alloc, form, file, behind)
     }
 }
 
-// The answer to a configuration that does not run yet.
-fn not_built(alloc: Global, config: &Config) -> Result<Answer, AllocError>
-    requires { is_built config.now ≡ false }
-    ensures answer { IfOk result (λ a. IsNotBuilt config.now a.text.items a.status) }
+// The answer to a file and a step text that is not too long.
+fn file_answer(alloc: Global, form: Form, file: &[u8], behind: &[u8]) -> Result<Answer, AllocError>
+    requires short { length behind.now ≤ steps_limit }
+    ensures answer { IfOk result (λ a. IsFileAnswer form file.now behind.now a.text.items a.status) }
     ensures status { IfOk result (λ a. is_answer a.status ≡ true) }
 {
-    let _ = config;
-    fault_answer(alloc, Fault::NotBuilt, Status::File)
+    match read(alloc, file) {
+        Ok(config) => steps_answer(alloc, form, config, behind),
+        Err(FileError::Fault(first)) => fault_answer(alloc, Fault::File(first), Status::File),
+        Err(FileError::OutOfMemory) => Err(AllocError),
+    }
 }
 
 // The answer to the step text of a configuration.
-fn steps_answer(alloc: Global, config: Config, behind: &[u8]) -> Result<Answer, AllocError>
-    requires built { is_built config ≡ true }
+fn steps_answer(
+    alloc: Global,
+    form: Form,
+    config: Config,
+    behind: &[u8],
+) -> Result<Answer, AllocError>
     requires sound { IsSoundFile config }
     requires short { length behind.now ≤ steps_limit }
-    ensures answer { IfOk result (λ a. IsStepsAnswer config behind.now a.text.items a.status) }
+    ensures answer { IfOk result (λ a. IsStepsAnswer form config behind.now a.text.items a.status) }
     ensures status { IfOk result (λ a. is_answer a.status ≡ true) }
 {
     match read_steps(alloc, behind) {
-        Ok(steps) => played(alloc, config, steps.as_slice()),
+        Ok(steps) => played(alloc, form, config, steps.as_slice()),
         Err(StepTextError::BadStep { number, column }) => {
             let fault = Fault::OffGrammar {
                 number: u64::from(number),
@@ -115,15 +131,14 @@ fn steps_answer(alloc: Global, config: Config, behind: &[u8]) -> Result<Answer, 
 }
 
 // The answer to a list of steps of a configuration.
-fn played(alloc: Global, config: Config, steps: &[Step]) -> Result<Answer, AllocError>
-    requires built { is_built config ≡ true }
+fn played(alloc: Global, form: Form, config: Config, steps: &[Step]) -> Result<Answer, AllocError>
     requires sound { IsSoundFile config }
     requires grammar { All IsStep steps.now }
-    ensures answer { IfOk result (λ a. IsPlayed config steps.now a.text.items a.status) }
+    ensures answer { IfOk result (λ a. IsPlayed form config steps.now a.text.items a.status) }
     ensures status { IfOk result (λ a. is_answer a.status ≡ true) }
 {
     match play(alloc, config, steps) {
-        Ok(world) => report_answer(alloc, &world),
+        Ok(world) => report_answer(alloc, form, &world),
         Err(PlayError::Refused { number, cause }) => {
             fault_answer(alloc, Fault::Refused { number, cause }, Status::BadStep)
         }
@@ -131,14 +146,14 @@ fn played(alloc: Global, config: Config, steps: &[Step]) -> Result<Answer, Alloc
     }
 }
 
-// The answer that reports a World.
-fn report_answer(alloc: Global, world: &World) -> Result<Answer, AllocError>
-    ensures report { IfOk result (λ a. IsReport world.now.config world.now.state a.text.items) }
+// The answer that tells of a World, in a form.
+fn report_answer(alloc: Global, form: Form, world: &World) -> Result<Answer, AllocError>
+    ensures report { IfOk result (λ a. IsReport form world.now.config world.now.state (steps_of world.now.log) a.text.items) }
     ensures ending { IfOk result (λ a. a.status ≡ status_of (ending_of world.now.config world.now.state)) }
     ensures status { IfOk result (λ a. is_answer a.status ≡ true) }
 {
     let status = Status::of(world.ending());
-    let text = report(alloc, world)?;
+    let text = told(alloc, form, world)?;
     Ok(Answer { status, text })
 }
 

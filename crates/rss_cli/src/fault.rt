@@ -12,8 +12,6 @@ pub enum Fault {
     File(FileFault),
     /// The input, or the step text, is longer than its limit.
     TooLong,
-    /// The file is valid, and files of its kind do not run yet.
-    NotBuilt,
     /// The step of this number, counted from 1, goes off the grammar at this column, counted from 1.
     OffGrammar { number: u64, column: u64 },
     /// The step of this number, counted from 1, is refused by the machine.

@@ -42,7 +42,6 @@ fn put_refusal(alloc: Global, out: &mut Vec<u8>, cause: StepRefusal) -> Result<(
             put(out, b" ")?;
             put_number(alloc, out, contradiction.latest)
         }
-        StepRefusal::NotBuilt => put(out, b"NotBuilt"),
         StepRefusal::StageOver => put(out, b"StageOver"),
         StepRefusal::Message(refusal) => {
             put(out, b"Message ")?;
@@ -60,7 +59,6 @@ fn put_fault(alloc: Global, out: &mut Vec<u8>, fault: Fault) -> Result<(), Alloc
         Fault::Usage => put(out, b"fault usage\n"),
         Fault::File(fault) => put_file(alloc, out, fault),
         Fault::TooLong => put(out, b"fault file OverLimit file\n"),
-        Fault::NotBuilt => put(out, b"fault file NotBuilt file\n"),
         Fault::OffGrammar { number, column } => {
             put(out, b"fault step ")?;
             put_number(alloc, out, number)?;

@@ -5,11 +5,13 @@ mod answer;
 mod commands;
 mod fault;
 mod fault_lines;
+mod generated;
+mod laws;
 mod play;
-mod served;
-mod split;
 mod status;
+mod telling;
 
 pub use commands::{still_top, top};
+pub use laws::printed_logs_replay;
 pub use status::Status;
 pub use world_report::report;

@@ -1,7 +1,7 @@
 //! Steps of a list, made one after another.
 
-ghost use Rattle.std.specs.Prelude.{◌≡◌, ◌≤◌, ◌++◌, IfOk, IfErr, IsTrue};
-ghost use Rattle.rss_machine.specs.Built.{is_built};
+ghost use Rattle.std.specs.Prelude.{◌≡◌, ◌≤◌, ◌++◌, IfOk, IfErr};
+ghost use Rattle.world_laws.specs.Shapes.{IsSoundFile};
 ghost use Rattle.rss_cli.specs.Played.{HasPlayed, IsPlayError};
 
 use event_world::World;
@@ -28,8 +28,7 @@ pub enum PlayError {
 /// - `Refused` names the first step that the World refuses, and the cause.
 /// - `OutOfMemory`, where memory is wanting.
 pub fn play(alloc: Global, config: Config, steps: &[Step]) -> Result<World, PlayError>
-    requires built { IsTrue (is_built config) }
-    requires limit { config.max_steps ≤ 200000 }
+    requires sound { IsSoundFile config }
     ensures played { IfOk result (λ w. HasPlayed config steps.now w) }
     ensures refused { IfErr result (λ e. IsPlayError config steps.now e) }
 {

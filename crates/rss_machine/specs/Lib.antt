@@ -8,7 +8,6 @@ pub mod Enabling
 pub mod Calls
 pub mod Effect
 pub mod Refusal
-pub mod Built
 pub mod Run
 pub mod Endings
 pub mod Turns

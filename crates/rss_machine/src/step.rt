@@ -45,9 +45,6 @@ pub enum StepRefusal {
     /// The reading ends before the true moment.
     #[error("{0}")]
     Reading(Contradiction),
-    /// Steps of this kind are not built yet.
-    #[error("steps of this kind are not built yet")]
-    NotBuilt,
     /// An act or a kill of a stage that is over.
     #[error("the stage is over")]
     StageOver,

@@ -44,3 +44,9 @@ pub fn replay(
     let words = [String::from_str(alloc, "replay")?];
     run(alloc, &words, input, source_fails, sink_fails)
 }
+
+/// `serial` of an input, where no call fails.
+pub fn serial(alloc: Global, input: &str) -> Result<Left, AllocError> {
+    let words = [String::from_str(alloc, "serial")?];
+    run(alloc, &words, input, &[], &[])
+}

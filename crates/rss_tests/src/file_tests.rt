@@ -112,15 +112,22 @@ fn keys_of_two_services_do_not_mix(rt: HostRuntime) -> Result<(), Fail> {
 }
 
 #[test]
-fn valid_files_that_do_not_run_are_refused_by_name(rt: HostRuntime) -> Result<(), Fail> {
+fn valid_files_are_reported_before_their_first_step(rt: HostRuntime) -> Result<(), Fail> {
     let alloc = rt.alloc();
-    let file = with_script(alloc, "let v = 1\nfence\n")?;
-    let left = replay(alloc, file.as_str(), &[], &[])?;
-    assert_eq!(rt; left.code, 2);
-    assert_eq!(rt;
-        left.text.as_slice(),
-        b"fault file NotBuilt file\n".as_slice()
-    );
+    let rows = [
+        ("let v = 1\nfence\n", "stage a running\nending unfinished\n"),
+        (
+            "repeat 2\n  let v = v + 1\nend\n",
+            "stage a running\nending unfinished\n",
+        ),
+        ("", "stage a running\nending unfinished\n"),
+    ];
+    for (script, report) in rows {
+        let file = with_script(alloc, script)?;
+        let left = replay(alloc, file.as_str(), &[], &[])?;
+        assert_eq!(rt; left.code, 1, "{script}");
+        assert_eq!(rt; left.text.as_slice(), report.as_bytes(), "{script}");
+    }
     Ok(())
 }
 
@@ -149,22 +156,6 @@ fn step_lines_off_the_grammar_are_named(rt: HostRuntime) -> Result<(), Fail> {
         let fault = format!(in alloc; "fault step 1 column {column}\n")?;
         assert_eq!(rt; left.code, 2, "{line}");
         assert_eq!(rt; left.text.as_slice(), fault.as_bytes(), "{line}");
-    }
-    Ok(())
-}
-
-#[test]
-fn kinds_of_step_that_do_not_run_are_refused_by_name(rt: HostRuntime) -> Result<(), Fail> {
-    let alloc = rt.alloc();
-    for word in ["kill", "stub"] {
-        let input = format!(in alloc; "{FORM}%steps\nact 1 10 14\n{word} 1 20 24\n")?;
-        let left = replay(alloc, input.as_str(), &[], &[])?;
-        assert_eq!(rt; left.code, 2, "{word}");
-        assert_eq!(rt;
-            left.text.as_slice(),
-            b"fault step 2 NotBuilt\n".as_slice(),
-            "{word}"
-        );
     }
     Ok(())
 }

@@ -12,4 +12,6 @@ mod file_tests;
 #[cfg(test)]
 mod run_tests;
 #[cfg(test)]
+mod serial_tests;
+#[cfg(test)]
 mod world_tests;

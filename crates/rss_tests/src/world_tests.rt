@@ -1,175 +1,135 @@
-//! Refusals of the World, and one file's log running full.
+//! Long runs of the World, and steps out of place, through the top call.
 
-ghost use Rattle.std.specs.Prelude.{◌≡◌, ◌≤◌, [], ◌∷◌, length, true, IfOk, IsTrue};
-ghost use Rattle.std.specs.List.{list_all};
-ghost use Rattle.rss_machine.specs.Built.{is_built, is_built_script, has_few_replicas};
-ghost use Rattle.pipeline_lang.specs.declared.config.Body.{Body as StageBody};
-
-use event_world::World;
-use pipeline_lang::{Body, Config, Expr, NameTable, Script, ServiceDef, Statement, Term};
-use rss_machine::{Step, StepKind, StepRefusal};
-use rss_names::{Key, Name, Seq, ServiceId, StageId};
-use rss_wire::NetRefusal;
+use crate::commands::{FORM, replay};
 use std::alloc::{AllocError, Global};
 use std::test::Fail;
-use truetime::Interval;
 
-/// The register of the file.
-const REGISTER: Key = Key {
-    service: ServiceId::Reg(1),
-    index: 0,
-};
+/// How often the stage writes and reads.
+const TURNS: u32 = 1000;
 
-// A list of one element.
-fn list_of<T: Drop>(alloc: Global, item: T) -> Result<Seq<T>, AllocError>
-    ensures { IfOk result (λ list. list ≡ item ∷ []) }
-{
-    let mut list = Seq::new(alloc);
-    match list.push(item) {
-        Ok(()) => Ok(list),
-        Err(_) => Err(AllocError),
-    }
-}
+/// A stage that counts in a register, a thousand times.
+const COUNTER: &str =
+    "registers = [\"r\"]\n[[stage]]\nname = \"a\"\nscript = '''\nrepeat 1000\n  let n = n + 1\n  write r n\n  read v r\nend\n'''\n";
 
-// A list of two elements.
-fn pair_of<T: Drop>(alloc: Global, first: T, second: T) -> Result<Seq<T>, AllocError>
-    ensures { IfOk result (λ list. list ≡ first ∷ second ∷ []) }
-{
-    let mut list = list_of(alloc, first)?;
-    match list.push(second) {
-        Ok(()) => Ok(list),
-        Err(_) => Err(AllocError),
-    }
-}
-
-// A table of one name.
-fn table_of(alloc: Global, name: Name) -> Result<NameTable, AllocError>
-    ensures { IfOk result (λ table. table ≡ name ∷ []) }
-{
-    let mut table = NameTable::new(alloc);
-    table.add(name)?;
-    Ok(table)
-}
-
-// The script that writes 5 and reads it back.
-fn script_of(alloc: Global) -> Result<Script, AllocError>
-    ensures { IfOk result (λ script. is_built_script script ≡ true) }
-{
-    let write = Statement::Write(REGISTER, Expr::One(Term::Number(5)));
-    pair_of(alloc, write, Statement::Read(1, REGISTER))
-}
-
-// The two services that every file has.
-fn services_of(alloc: Global, txn: Name, reg: Name) -> Result<Seq<ServiceDef>, AllocError>
-    ensures { IfOk result (λ services. list_all has_few_replicas services ≡ true) }
-{
-    let txn = ServiceDef {
-        name: txn,
-        id: ServiceId::Txn(1),
-        replicas: 0,
-    };
-    let reg = ServiceDef {
-        name: reg,
-        id: ServiceId::Reg(1),
-        replicas: 3,
-    };
-    pair_of(alloc, txn, reg)
-}
-
-// The one stage, which runs the script.
-fn bodies_of(alloc: Global) -> Result<Seq<Body>, AllocError>
-    ensures scripts { IfOk result (λ bodies. list_all (λ (body : StageBody). is_built_script body.script) bodies ≡ true) }
-    ensures one { IfOk result (λ bodies. length bodies ≡ 1) }
-{
-    let script = script_of(alloc)?;
-    let body = Body {
-        script,
-        earliest_end: 2000,
-    };
-    list_of(alloc, body)
-}
-
-// A file with this limit of steps.
-fn file_of(
+// Appends a step with a reading of its own.
+fn add_step(
     alloc: Global,
-    max_steps: u32,
-    services: Seq<ServiceDef>,
-    register: Name,
-    stage: Name,
-) -> Result<Config, AllocError>
-    requires { list_all has_few_replicas services ≡ true }
-    ensures built { IfOk result (λ c. IsTrue (is_built c)) }
-    ensures limit { IfOk result (λ c. c.max_steps ≡ max_steps) }
-{
-    let bodies = bodies_of(alloc)?;
-    Ok(Config {
-        tries: 3,
-        max_steps,
-        drivers: 1,
-        services,
-        registers: table_of(alloc, register)?,
-        register_services: list_of(alloc, ServiceId::Reg(1))?,
-        shards: NameTable::new(alloc),
-        shard_services: Seq::new(alloc),
-        keys: NameTable::new(alloc),
-        homes: Seq::new(alloc),
-        pipes: NameTable::new(alloc),
-        pipe_ends: Seq::new(alloc),
-        stages: table_of(alloc, stage)?,
-        bodies,
-        withholds: Seq::new(alloc),
-        kills: Seq::new(alloc),
-    })
+    text: &mut Vec<u8>,
+    made: &mut u32,
+    step: &str,
+) -> Result<(), AllocError> {
+    *made = made.wrapping_add(1);
+    let earliest = made.wrapping_mul(10);
+    let latest = earliest.wrapping_add(4);
+    let line = format!(in alloc; "{step} {earliest} {latest}\n")?;
+    text.extend_from_slice(line.as_bytes())
 }
 
-// A World whose file has this limit of steps.
-fn world_of(alloc: Global, max_steps: u32) -> Result<World, Fail>
-    requires { max_steps ≤ 200000 }
-{
-    let services = services_of(alloc, Name::read(b"txn")?, Name::read(b"reg")?)?;
-    let file = file_of(
-        alloc,
-        max_steps,
-        services,
-        Name::read(b"r")?,
-        Name::read(b"a")?,
-    )?;
-    Ok(World::new(alloc, file)?)
+// Appends the delivery of so many messages behind those sent before.
+fn deliver(
+    alloc: Global,
+    text: &mut Vec<u8>,
+    made: &mut u32,
+    before: u32,
+    messages: u32,
+) -> Result<(), AllocError> {
+    for next in 0..messages {
+        let message = before.wrapping_add(next).wrapping_add(1);
+        let step = format!(in alloc; "go {message}")?;
+        add_step(alloc, text, made, step.as_str())?;
+    }
+    Ok(())
 }
 
-// A step of this kind, with a reading.
-fn step_of(kind: StepKind) -> Option<Step> {
-    let at = Interval::new(10, 14)?;
-    Some(Step { kind, at })
+// The file with its steps: a write has twelve messages, a read six, and all are delivered in order.
+fn counted(alloc: Global) -> Result<Vec<u8>, AllocError> {
+    let mut text = Vec::new(alloc);
+    let mut made = 0;
+    text.extend_from_slice(COUNTER.as_bytes())?;
+    text.extend_from_slice(b"%steps\n")?;
+    add_step(alloc, &mut text, &mut made, "act 1")?;
+    for turn in 0..TURNS {
+        let before = turn.wrapping_mul(18);
+        add_step(alloc, &mut text, &mut made, "act 1")?;
+        add_step(alloc, &mut text, &mut made, "act 1")?;
+        deliver(alloc, &mut text, &mut made, before, 12)?;
+        add_step(alloc, &mut text, &mut made, "act 1")?;
+        deliver(alloc, &mut text, &mut made, before.wrapping_add(12), 6)?;
+        add_step(alloc, &mut text, &mut made, "act 1")?;
+    }
+    add_step(alloc, &mut text, &mut made, "act 1")?;
+    Ok(text)
+}
+
+// The report of the file with its steps.
+fn counted_report(alloc: Global) -> Result<Vec<u8>, AllocError> {
+    let mut text = Vec::new(alloc);
+    for turn in 0..TURNS {
+        let value = turn.wrapping_add(1);
+        let write = value.wrapping_mul(2).wrapping_sub(1);
+        let read = value.wrapping_mul(2);
+        let lines = format!(in alloc;
+            "call {write} a write r {value} ok place {write}\ncall {read} a read r = {value} by {write} ok place {read}\n"
+        )?;
+        text.extend_from_slice(lines.as_bytes())?;
+    }
+    text.extend_from_slice(b"stage a exited\nending done\n")?;
+    Ok(text)
 }
 
 #[test]
-fn full_log_and_kinds_not_built_are_refused(rt: HostRuntime) -> Result<(), Fail> {
+fn a_thousand_turns_of_a_repeat_are_reported(rt: HostRuntime) -> Result<(), Fail> {
     let alloc = rt.alloc();
-    let mut world = world_of(alloc, 1)?;
-    let stage = StageId::new(1).ok_or("a stage")?;
+    let input = counted(alloc)?;
+    let text = std::str::from_utf8(input.as_slice())
+        .ok()
+        .ok_or("the file is text")?;
+    let left = replay(alloc, text, &[], &[])?;
+    let report = counted_report(alloc)?;
+    assert_eq!(rt; left.code, 0);
+    assert_eq!(rt; left.text.as_slice(), report.as_slice());
+    Ok(())
+}
+
+#[test]
+fn steps_out_of_place_are_refused_by_name(rt: HostRuntime) -> Result<(), Fail> {
+    let alloc = rt.alloc();
     let rows = [
-        (StepKind::Kill(stage), StepRefusal::NotBuilt),
-        (StepKind::Stub(stage), StepRefusal::NotBuilt),
-        (
-            StepKind::Lose(1),
-            StepRefusal::Message(NetRefusal::NoSuchMessage),
-        ),
-        (
-            StepKind::Again(1),
-            StepRefusal::Message(NetRefusal::NoSuchMessage),
-        ),
+        ("lose 1 10 14\n", "1 Message NoSuchMessage"),
+        ("again 1 10 14\n", "1 Message NoSuchMessage"),
+        ("stub 1 10 14\n", "1 NotEnabled"),
+        ("kill 2 10 14\n", "1 NotEnabled"),
+        ("kill 1 10 14\nkill 1 20 24\n", "2 StageOver"),
+        ("kill 1 10 14\nact 1 20 24\n", "2 StageOver"),
+        ("kill 1 10 14\nstub 1 20 24\nstub 1 30 34\n", "3 NotEnabled"),
+        ("act 1 10 14\nkill 1 20 24\nact 1 30 34\n", "3 StageOver"),
     ];
-    for (kind, cause) in rows {
-        let step = step_of(kind).ok_or("a step")?;
-        world.make_room(&step)?;
-        assert_eq!(rt; world.step(&step, 0), Err(cause));
+    for (steps, fault) in rows {
+        let input = format!(in alloc; "{FORM}%steps\n{steps}")?;
+        let left = replay(alloc, input.as_str(), &[], &[])?;
+        let line = format!(in alloc; "fault step {fault}\n")?;
+        assert_eq!(rt; left.code, 2, "{steps}");
+        assert_eq!(rt; left.text.as_slice(), line.as_bytes(), "{steps}");
     }
-    let act = step_of(StepKind::Act(stage)).ok_or("a step")?;
-    world.make_room(&act)?;
-    assert_eq!(rt; world.step(&act, 0), Ok(()));
-    world.make_room(&act)?;
-    assert_eq!(rt; world.step(&act, 0), Err(StepRefusal::LogFull));
-    assert_eq!(rt; world.log().len(), 1);
+    Ok(())
+}
+
+#[test]
+fn a_full_log_takes_no_step(rt: HostRuntime) -> Result<(), Fail> {
+    let alloc = rt.alloc();
+    let rows = [
+        (
+            "act 1 10 14\n",
+            3,
+            "call 1 a write open\nstage a running\nending limit\n",
+        ),
+        ("act 1 10 14\ngo 1 20 24\n", 2, "fault step 2 LogFull\n"),
+    ];
+    for (steps, code, text) in rows {
+        let input = format!(in alloc; "max_steps = 1\n{FORM}%steps\n{steps}")?;
+        let left = replay(alloc, input.as_str(), &[], &[])?;
+        assert_eq!(rt; left.code, code, "{steps}");
+        assert_eq!(rt; left.text.as_slice(), text.as_bytes(), "{steps}");
+    }
     Ok(())
 }

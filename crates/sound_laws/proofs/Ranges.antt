@@ -1,5 +1,5 @@
 -- What the rows of a document say is within its range.
-use Rattle.std.proofs.Common.{◌≡◌, ℕ, ◌+◌, ◌-◌, ◌≤◌, ◌⊎◌, inl, inr, List, [], ◌∷◌, ◌++◌, length, Option, Some, None, Result, Ok, Err, refl, sym, subst, arith}
+use Rattle.std.proofs.Common.{◌≡◌, ℕ, suc, ◌+◌, ◌*◌, ◌-◌, ◌≤◌, ◌⊎◌, inl, inr, List, [], ◌∷◌, ◌++◌, length, Option, Some, None, Result, Ok, Err, refl, sym, ap, subst, arith}
 use Rattle.std.specs.Prelude.{Bool, true, cond, ◌&&◌, ◌||◌, ◌==◌, nat_le, ℤ, pos, negsuc}
 use Rattle.std.proofs.lemmas.Bool.{and_parts}
 use Rattle.std.proofs.lemmas.Bool.Decides.{nat_tests}
@@ -16,13 +16,15 @@ use Rattle.pipeline_tables.specs.declared.tables.RootTable.{RootTable}
 use Rattle.pipeline_tables.specs.declared.tables.ServiceKind.{ServiceKind}
 use Rattle.pipeline_tables.specs.declared.tables.ServiceKind.TheVariants.{Txn, Reg}
 use Rattle.pipeline_tables.specs.declared.tables.ServiceTable.{ServiceTable}
+use Rattle.pipeline_tables.specs.declared.tables.ShardTable.{ShardTable}
 use Rattle.pipeline_tables.specs.declared.tables.StageTable.{StageTable}
 use Rattle.pipeline_tables.specs.Faults.{◌>>=◌, key_place, fault}
 use Rattle.pipeline_tables.specs.Keys.{only_keys, value_at}
-use Rattle.pipeline_tables.specs.Lists.{some_items, some_members, names_of, so_many, name_list, names_or_none, row_in}
-use Rattle.pipeline_tables.specs.Rows.{root_of, pipe_of, stage_of, kind_at, most_registers, service_of}
+use Rattle.pipeline_tables.specs.Lists.{some_items, some_members, names_of, so_many, name_list, names_at, names_or_none, row_in}
+use Rattle.pipeline_tables.specs.Rows.{root_of, shard_of, pipe_of, stage_of, kind_at, most_registers, service_of}
 use Rattle.pipeline_tables.specs.Services.{services_from}
-use Rattle.pipeline_tables.specs.Values.{or_default, in_range, number_of, number_or, optional_number, three_five_seven, replicas_of, replicas_or, text_at, name_at}
+use Rattle.pipeline_tables.specs.Values.{required, or_default, in_range, number_of, number_or, optional_number, three_five_seven, replicas_of, replicas_or, text_at, name_at, optional_name}
+use Rattle.pipeline_file.specs.Services.{for_each, homes_from}
 use Rattle.file_laws.specs.FileOrder.{flat}
 use Rattle.file_laws.proofs.Each.{Each}
 use Rattle.file_laws.proofs.Went.{ok_same, went, went_onto, after}
@@ -71,17 +73,28 @@ replicas_fit default at keyed n l h = replicas_value default at (value_at at.key
 
 -- NAMES
 
-names_value : (most : ℕ) (at : Place) (v : Option Data) (names : List (List ℕ)) → or_default [] (name_list 0 most at) v ≡ Ok names → length names ≤ most
+names_listed : (least most : ℕ) (at : Place) (value : Data) (names : List (List ℕ)) → name_list least most at value ≡ Ok names → length names ≤ most
 unfolding name_list
-names_value most at (Some value) names h =
-    let read = went (some_items at (as_array value) >>= names_of at) (so_many 0 most at) names h in
-    let t = let_through (nat_le 0 (length read.0) && nat_le (length read.0) most) read.0 names (fault OverLimit at) read.1.1 in
-    subst (λ (xs : List (List ℕ)). length xs ≤ most) t.1 (at_most (length read.0) most (and_parts (nat_le 0 (length read.0)) (nat_le (length read.0) most) t.0).1)
+names_listed least most at value names h =
+    let read = went (some_items at (as_array value) >>= names_of at) (so_many least most at) names h in
+    let t = let_through (nat_le least (length read.0) && nat_le (length read.0) most) read.0 names (fault OverLimit at) read.1.1 in
+    subst (λ (xs : List (List ℕ)). length xs ≤ most) t.1 (at_most (length read.0) most (and_parts (nat_le least (length read.0)) (nat_le (length read.0) most) t.0).1)
+
+names_value : (most : ℕ) (at : Place) (v : Option Data) (names : List (List ℕ)) → or_default [] (name_list 0 most at) v ≡ Ok names → length names ≤ most
+names_value most at (Some value) names h = names_listed 0 most at value names h
 names_value most at None names h = subst (λ (xs : List (List ℕ)). length xs ≤ most) (ok_same [] names h) (omega arith)
 
 names_fit : (most : ℕ) (at : Place) (keyed : Members) (names : List (List ℕ)) → names_or_none most at keyed ≡ Ok names → length names ≤ most
 unfolding names_or_none
 names_fit most at keyed names h = names_value most at (value_at at.key keyed) names h
+
+names_required : (least most : ℕ) (at : Place) (v : Option Data) (names : List (List ℕ)) → (required at v >>= name_list least most at) ≡ Ok names → length names ≤ most
+names_required least most at (Some value) names h = names_listed least most at value names h
+names_required least most at None names h = absurd cc
+
+names_are_few : (least most : ℕ) (at : Place) (keyed : Members) (names : List (List ℕ)) → names_at least most at keyed ≡ Ok names → length names ≤ most
+unfolding names_at
+names_are_few least most at keyed names h = names_required least most at (value_at at.key keyed) names h
 
 -- ROWS
 
@@ -108,6 +121,32 @@ root_fits keyed root = after RootFits root (only_keys _ table.Root 0 keyed) _ (�
       replicas = replicas_fit 3 (key_place table.Root 0 key.Replicas) keyed replicas (omega arith) r;
       registers = names_fit 64 (key_place table.Root 0 key.Registers) keyed registers g;
     }))))))))
+
+abbrev pub HasFewKeys : ShardTable → Type 0
+HasFewKeys s = length s.keys ≤ 64
+
+pub shard_fits : (root : RootTable) (n : ℕ) (keyed : Members) (s : ShardTable) → shard_of root n keyed ≡ Ok s → HasFewKeys s
+unfolding shard_of
+shard_fits root n keyed s = after HasFewKeys s (only_keys _ table.Shard n keyed) _ (λ known _.
+    after HasFewKeys s (name_at (key_place table.Shard n key.Name) keyed) _ (λ name _.
+    after HasFewKeys s (names_at 1 64 (key_place table.Shard n key.Keys) keyed) _ (λ keys k.
+    after HasFewKeys s (optional_name (key_place table.Shard n key.Service) keyed) _ (λ service _ made.
+    subst HasFewKeys (ok_same _ s made) (names_are_few 1 64 (key_place table.Shard n key.Keys) keyed keys k)))))
+
+-- as many homes as the shards have keys
+homes_of_one : (n : ℕ) (names : List (List ℕ)) → length (for_each n names) ≡ length names
+unfolding for_each
+homes_of_one n [] = refl
+homes_of_one n (name ∷ names) = ap suc (homes_of_one n names)
+
+pub homes_are_few : (n : ℕ) (shards : List ShardTable) → Each HasFewKeys shards → length (homes_from n shards) ≤ 64 * length shards
+unfolding homes_from
+homes_are_few n [] each = omega arith
+homes_are_few n (s ∷ shards) each =
+    let first = homes_of_one n s.keys in
+    let rest = homes_are_few (n + 1) shards each.1 in
+    let both = length-append (for_each n s.keys) (homes_from (n + 1) shards) in
+    omega (arith, first, rest, both, each.0)
 
 abbrev pub HasRoom : PipeTable → Type 0
 HasRoom p = p.capacity ≤ 64

@@ -37,7 +37,7 @@ use Rattle.sound_laws.proofs.Defined.{services_defined, gives_places}
 use Rattle.sound_laws.proofs.Depths.{IsSmall, is_small, none_small}
 use Rattle.sound_laws.proofs.Named.{HasNumbers, statements_number}
 use Rattle.sound_laws.proofs.Piped.{pipes_apart}
-use Rattle.sound_laws.proofs.Ranges.{HasRoom, HasMargin, RootFits, root_fits, pipe_fits, stage_fits, ServicesFit, services_fit}
+use Rattle.sound_laws.proofs.Ranges.{HasFewKeys, HasRoom, HasMargin, RootFits, root_fits, shard_fits, homes_are_few, pipe_fits, stage_fits, ServicesFit, services_fit}
 use Rattle.sound_laws.proofs.Resolved.{AreResolved, are_resolved, IsDefined, shards_txn, EndsFit, pipes_fit}
 use Rattle.sound_laws.proofs.Said.{AreSaid, are_said, each_row}
 use Rattle.sound_laws.proofs.Serviced.{key_served, statements_keep}
@@ -112,6 +112,13 @@ module _ (keyed : Members) (t : FileTables) (said : tables_said keyed ≡ Ok t) 
   served : length r.shard_services ≡ length t.shards
   served = shards_served d.known t r named
 
+  few_homes : length d.homes ≤ 1024
+  unfolding all_declared
+  few_homes =
+      let most = homes_are_few 1 t.shards (each_row HasFewKeys _ _ 1 tables.shards.items t.shards (shard_fits t.root) tables.shards.said) in
+      let shards = tables.shards.few in
+      omega (arith, most, shards)
+
   few_pipes : length r.pipe_ends ≤ 16
   few_pipes = subst (λ (n : ℕ). n ≤ 16) (sym (meanings_many (pipe_ends d.known) 1 t.pipes r.pipe_ends resolved.ends)) tables.pipes.few
 
@@ -143,6 +150,7 @@ module _ (keyed : Members) (t : FileTables) (said : tables_said keyed ≡ Ok t) 
           steps = root.steps;
           stages = subst (λ (n : ℕ). n ≤ 16) (sym (bodies_many d r 1 [] t.stages bodies read)) tables.stages.few;
           shards = subst (λ (n : ℕ). n ≤ 16) (sym served) tables.shards.few;
+          keys = few_homes;
           registers = subst (λ (xs : List (List ℕ)). length xs ≤ 64) (sym (tables_are_in_file_order t).registers) (few_registers t.root.registers (flat (λ (s : ServiceTable). s.registers) t.services) root.registers further.registers);
           listed = (tables_are_in_file_order t).owners;
           pipes = few_pipes;

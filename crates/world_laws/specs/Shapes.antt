@@ -70,6 +70,7 @@ pub record IsWithin (c : Config) : Type 0 where
   pub steps : c.max_steps ≤ 200000
   pub stages : length c.bodies ≤ 16
   pub shards : length c.shard_services ≤ 16
+  pub keys : length c.homes ≤ 1024
   pub registers : length c.registers ≤ 64
   pub listed : length c.register_services ≡ length c.registers
   pub pipes : length c.pipe_ends ≤ 16

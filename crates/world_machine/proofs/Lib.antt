@@ -16,3 +16,4 @@ pub mod Coming
 pub mod Losing
 pub mod Counted
 pub mod Doing
+pub mod Start

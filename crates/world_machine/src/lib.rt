@@ -10,6 +10,7 @@ mod finishing;
 mod losses;
 mod machine;
 mod messages;
+mod opening;
 mod refusing;
 mod standing;
 mod statements;

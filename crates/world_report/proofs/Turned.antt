@@ -6,7 +6,7 @@ use Rattle.rss_machine.specs.declared.ending.StageState.{StageState}
 use Rattle.rss_machine.specs.declared.ending.StageState.TheVariants as standing
 use Rattle.rss_machine.specs.declared.turn.Turn.{Turn}
 use Rattle.rss_machine.specs.declared.turn.Turn.TheVariants as turn
-use Rattle.event_world.specs.Asked.{blocked_by}
+use Rattle.world_turns.specs.Asked.{blocked_by}
 use Rattle.report_lines.specs.Pieces.{waits_text, standing_text}
 
 waits_is : (c : Config) (t : Turn) → waits_text c (blocked_by t) ≡ live_text c t

@@ -1,4 +1,4 @@
-//! Code: the report of a World.
+//! Code: the report of a World, and its summary.
 #![tactic(auto)]
 
 mod calls;
@@ -6,4 +6,4 @@ mod reporting;
 mod services;
 mod stages;
 
-pub use reporting::report;
+pub use reporting::{report, summary};

@@ -2,5 +2,5 @@
 use Rattle.rss_cli.proofs.Promised.{read_sound}
 use Rattle.rss_cli.proofs.answer.file_answer.Goals as goal
 
-pub config_answer-requires-clause-sound : goal.config_answer-requires-clause-sound
-config_answer-requires-clause-sound c = read_sound c.args.file.now c.in-Ok.config c.in-Ok.ensures.said
+pub steps_answer-requires-clause-sound : goal.steps_answer-requires-clause-sound
+steps_answer-requires-clause-sound c = read_sound c.args.file.now c.in-Ok.config c.in-Ok.ensures.said

@@ -1,0 +1,8 @@
+//! Code: the words by which the program is called.
+#![tactic(auto)]
+
+mod command;
+mod generated;
+
+pub use command::{Command, Form, command_of};
+pub use generated::gen_number;

@@ -1,4 +1,0 @@
-use Rattle.event_world.proofs.machine.Machine.+all_settled.Given as goal
-
-abbrev pub decreases-all_settled : goal.decreases-all_settled
-decreases-all_settled l = l.left

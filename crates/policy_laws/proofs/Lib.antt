@@ -1,0 +1,5 @@
+pub mod Places
+pub mod Turns
+pub mod Taken
+pub mod Proper
+pub mod Whole

@@ -1,0 +1,11 @@
+pub mod Found
+pub mod Placed
+pub mod Tables
+pub mod Raised
+pub mod Ended
+pub mod TopsRight
+pub mod Bad
+pub mod Caused
+pub mod InTime
+pub mod Steps
+pub mod Judged
