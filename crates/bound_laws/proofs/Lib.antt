@@ -7,4 +7,3 @@ pub mod ReadRounds
 pub mod Clean
 pub mod Watch
 pub mod Watched
-pub mod Snapshots

@@ -1,7 +1,6 @@
 //! The laws of counts of messages. They hold no code: each is the contract of a function that does nothing.
 
 ghost use Rattle.bound_laws.specs.Laws.{OwnRoundsAreFew, ReadsSendFew};
-ghost use Rattle.bound_laws.specs.Snapshots.{SnapshotsAskOnce};
 
 /// In every run of every file, whatever the steps: a read has sent to each replica at most one request of its
 /// own round, and one more for each message between the two that was lost while the read ran. A write has sent
@@ -22,14 +21,4 @@ pub fn own_rounds_send_few_requests()
 #[tactic(auto, using(crate::proofs::Watched::clean_run))]
 pub fn reads_send_few_requests()
     ensures { ReadsSendFew }
-{}
-
-/// The session of a snapshot, from its beginning on and for every list of replies that its lines hear, each of
-/// which a shard gives to the request of the line: if none says that somebody is in the way, and none tells of a
-/// writer that was passed by at or below the snapshot's time, once that is known, it has sent each shard one
-/// request at most, and none to a shard on which none of its keys lives. What is sent again for a lost message is
-/// no doing of the session, and fences come before it; neither is counted here.
-#[tactic(auto, using(crate::proofs::Snapshots::snapshots_once))]
-pub fn snapshots_ask_each_shard_once()
-    ensures { SnapshotsAskOnce }
 {}

@@ -3,6 +3,4 @@
 
 mod laws;
 
-pub use laws::{
-    own_rounds_send_few_requests, reads_send_few_requests, snapshots_ask_each_shard_once,
-};
+pub use laws::{own_rounds_send_few_requests, reads_send_few_requests};

@@ -1,6 +1,6 @@
 //! The World: a configuration, the machine's state, and the log of the steps that led there.
 
-ghost use Rattle.std.specs.Prelude.{◌≡◌, ◌≤◌, ◌++◌, ◌∷◌, [], OnOk, OnErr, IfOk, IfErr, IsTrue, None, Some, ◌↔◌};
+ghost use Rattle.std.specs.Prelude.{◌≡◌, ◌≤◌, ◌++◌, ◌∷◌, [], OnOk, OnErr, IfOk, IfErr, IfSome, IfNone, IsTrue, None, Some, ◌↔◌};
 ghost use Rattle.event_world.specs.World.{Takes, SameWorld, IsNew};
 ghost use Rattle.std.specs.Prelude.{◌+◌, length, true, option_copied};
 ghost use Rattle.causal_context.specs.Services.{place_of};
@@ -14,20 +14,21 @@ ghost use Rattle.rss_machine.specs.Places.{session_key};
 ghost use Rattle.rss_machine.specs.ReportText.{count_at};
 ghost use Rattle.rss_machine.specs.Run.{run, steps_of, readings_of};
 ghost use Rattle.rss_machine.specs.Standing.{stage_state as stage_state_of};
-ghost use Rattle.rss_machine.specs.State.{owner_at};
+ghost use Rattle.rss_machine.specs.State.{no_stage, owner_at, stage_at};
 ghost use Rattle.rss_machine.specs.Turns.{next_for as next_in, due_message};
-ghost use Rattle.rss_wire.specs.Messages.{envelope_at, request_at};
+ghost use Rattle.rss_wire.specs.Messages.{envelope_at, reply_at, request_at};
 ghost use Rattle.truetime.specs.Reading.{AreConsistent};
 
 use call_places::place_key;
 use pipeline_lang::Config;
+use pipeline_stage::Stage;
 use rss_machine::{
     Ending, Logged, OwnerFate, PlaceKey, StageState, Step, StepKind, StepRefusal, Turn,
 };
 use rss_model::Entry;
 use rss_names::{CallId, ServiceId, StageId, Target};
 use rss_tables::Await;
-use rss_wire::{Envelope, Request};
+use rss_wire::{Envelope, Reply, Request};
 use std::alloc::{AllocError, Global};
 use std::marker::Model;
 use world_machine::Machine;
@@ -254,6 +255,21 @@ impl World {
         ensures { option_copied result ≡ request_at self.now.state.net number }
     {
         self.machine.traffic.request(number)
+    }
+
+    /// A reply's contents. None exactly where no reply of this number was sent.
+    pub fn reply(&self, number: u32) -> Option<&Reply>
+        ensures { option_copied result ≡ reply_at self.now.state.net number }
+    {
+        self.machine.traffic.reply(number)
+    }
+
+    /// A stage as it stands. None exactly where the file has no stage of this number.
+    pub fn stage(&self, stage: StageId) -> Option<&Stage>
+        ensures found { IfSome result (λ found. found.now ≡ stage_at self.now.state stage) }
+        ensures missing { IfNone result (stage_at self.now.state stage ≡ no_stage) }
+    {
+        self.machine.stage(stage)
     }
 
     /// The key by which a call is placed in the one legal order, and None exactly where it is not placed.

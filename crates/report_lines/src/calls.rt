@@ -69,8 +69,8 @@ fn put_known(
     }
 }
 
-// Appends the operation of a call and what is known of it.
-fn put_body(
+/// Appends the operation of a call and what is known of it.
+pub fn put_body(
     alloc: Global,
     out: &mut Vec<u8>,
     config: &Config,

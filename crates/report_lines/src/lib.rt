@@ -8,7 +8,7 @@ mod stages;
 mod text;
 mod values;
 
-pub use calls::{Begun, put_call};
+pub use calls::{Begun, put_body, put_call};
 pub use names::put_stage;
 pub use services::put_service;
 pub use stages::{put_ending, put_standing};

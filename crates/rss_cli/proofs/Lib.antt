@@ -1,6 +1,5 @@
 pub mod Plays
 pub mod Sums
-pub mod Gens
 pub mod Promised
 pub mod Answered
 pub mod Again
