@@ -1,2 +1,3 @@
 pub mod Lists
 pub mod Gens
+pub mod Spelled

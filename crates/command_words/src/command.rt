@@ -2,7 +2,13 @@
 
 ghost use Rattle.std.specs.Prelude.{◌≡◌, ◌∷◌, [], map, MatchOption};
 ghost use Rattle.std.specs.String.{string_bytes};
-ghost use Rattle.command_words.specs.Words.{IsCalled, IsCommand, IsNoOption, NamesNone, option_words, words_of};
+ghost use Rattle.command_words.specs.Words.{IsCalled, IsCommand, IsNoDisk, IsNoOption, NamesNone, option_words, words_of};
+
+use crate::numbers::number_upto;
+use rss_names::{MOST_REPLICAS, ReplicaId};
+
+/// The greatest number of a call at which a disk stops.
+const LAST_STOP: u32 = 1_000_000;
 
 /// What a command prints of a run.
 #[derive(Clone, Copy, PartialEq, Eq)]
@@ -22,9 +28,13 @@ pub enum Command {
     Replay(Form),
     /// Makes the file's own steps, one stage after another.
     Serial(Form),
+    /// Makes the steps behind the file, and gives what this replica handled to one on a disk that stops at
+    /// the call of this number, and at none where it is 0.
+    Disk(ReplicaId, u32),
 }
 
-/// The command that the words are, if they are one: its name, and behind it one option at the most.
+/// The command that the words are, if they are one: its name, and behind it one option at the most, or the two
+/// numbers of `disk`.
 pub fn command_of(words: &[String]) -> Option<Command>
     ensures { MatchOption result
         (IsCommand (map string_bytes words.now) → ⊥)
@@ -36,6 +46,7 @@ pub fn command_of(words: &[String]) -> Option<Command>
             Some(form) => command_named(word, form),
             None => None,
         },
+        [word, replica, stop] => disk_named(word, replica, stop),
         _ => None,
     }
 }
@@ -68,4 +79,19 @@ fn form_named(option: &String) -> Option<Form>
     } else {
         None
     }
+}
+
+// The command `disk` with these numbers, if the words are that: a replica from 1 to 7, and a call up to 1000000.
+fn disk_named(word: &String, replica: &String, stop: &String) -> Option<Command>
+    ensures { MatchOption result
+        (IsNoDisk (string_bytes word.now ∷ string_bytes replica.now ∷ string_bytes stop.now ∷ []))
+        (λ command. IsCalled command (string_bytes word.now ∷ string_bytes replica.now ∷ string_bytes stop.now ∷ [])) }
+{
+    if word.as_str() != "disk" {
+        return None;
+    }
+    let replica = number_upto(replica.as_str(), u32::from(MOST_REPLICAS))?;
+    let stop = number_upto(stop.as_str(), LAST_STOP)?;
+    let replica = ReplicaId::new(replica as u8)?;
+    Some(Command::Disk(replica, stop))
 }

@@ -3,6 +3,7 @@
 
 mod command;
 mod generated;
+mod numbers;
 
 pub use command::{Command, Form, command_of};
 pub use generated::gen_number;

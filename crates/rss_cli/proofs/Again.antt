@@ -28,6 +28,7 @@ use Rattle.rss_cli.specs.Again.{IsToldAgain, IsReplayable}
 use Rattle.rss_cli.specs.Answer.{IsReported, IsRefusedStep, IsPlayed, IsSpelled, IsOffGrammar, IsStepsAnswer, IsValidFile, IsFaultyFile, IsFileAnswer, AreStepsTooLong, IsReplayed, IsRead, IsTooLong}
 use Rattle.rss_cli.specs.Played.{IsFirstRefused}
 use Rattle.rss_cli.specs.Statuses.{status_of}
+use Rattle.rss_cli.specs.declared.asked.Asked.TheVariants.{Report}
 use Rattle.rss_cli.specs.declared.status.Status.{Status}
 use Rattle.rss_cli.proofs.Answered.{same_state}
 use Rattle.rss_cli.proofs.Promised.{read_sound}
@@ -71,33 +72,33 @@ module _ (c : Config) (file : List ℕ) (steps : List Step) (text : List ℕ) (s
     same = r.ending ∙ ap (λ (s : State). status_of (ending_of c s)) (same_state c steps r.promise.state told.promise.state r.promise.runs told.promise.runs) ∙ sym told.ending;
   }
 
-  again_played : (form : Form) (again : List ℕ) (other : Status) → IsPlayed form c steps again other → IsToldAgain form c steps status again other
+  again_played : (form : Form) (again : List ℕ) (other : Status) → IsPlayed (Report form) c steps again other → IsToldAgain form c steps status again other
   again_played form again other (inl r) = again_reported form again other r
   again_played form again other (inr r) = absurd (run_refused c steps told.promise.state r.number r.cause told.promise.runs r.first)
 
-  again_spelled : (form : Form) (again : List ℕ) (other : Status) → IsSpelled form c (text_of steps) again other → IsToldAgain form c steps status again other
+  again_spelled : (form : Form) (again : List ℕ) (other : Status) → IsSpelled (Report form) c (text_of steps) again other → IsToldAgain form c steps status again other
   again_spelled form again other r =
       let same = (read_alone steps grammar).alone r.steps r.grammar r.spelled in
-      again_played form again other (subst (λ (xs : List Step). IsPlayed form c xs again other) (sym same) r.played)
+      again_played form again other (subst (λ (xs : List Step). IsPlayed (Report form) c xs again other) (sym same) r.played)
 
-  again_steps : (form : Form) (again : List ℕ) (other : Status) → IsStepsAnswer form c (text_of steps) again other → IsToldAgain form c steps status again other
+  again_steps : (form : Form) (again : List ℕ) (other : Status) → IsStepsAnswer (Report form) c (text_of steps) again other → IsToldAgain form c steps status again other
   again_steps form again other (inl r) = again_spelled form again other r
   again_steps form again other (inr r) = absurd ((read_alone steps grammar).no_bad r.number r.column r.bad)
 
-  again_file : (form : Form) (again : List ℕ) (other : Status) → (IsValidFile form file (text_of steps) again other ⊎ IsFaultyFile file again other) → IsToldAgain form c steps status again other
+  again_file : (form : Form) (again : List ℕ) (other : Status) → (IsValidFile (Report form) file (text_of steps) again other ⊎ IsFaultyFile file again other) → IsToldAgain form c steps status again other
   again_file form again other (inl r) =
       let same : r.config ≡ c = same_config c r.config (config_of file) says r.says in
-      again_steps form again other (subst (λ (d : Config). IsStepsAnswer form d (text_of steps) again other) same r.answer)
+      again_steps form again other (subst (λ (d : Config). IsStepsAnswer (Report form) d (text_of steps) again other) same r.answer)
   again_file form again other (inr r) = absurd (faulty_not c r.first (config_of file) says r.says)
 
-  again_parts : (form : Form) (again : List ℕ) (other : Status) → IsReplayed form file (text_of steps) again other → IsToldAgain form c steps status again other
+  again_parts : (form : Form) (again : List ℕ) (other : Status) → IsReplayed (Report form) file (text_of steps) again other → IsToldAgain form c steps status again other
   again_parts form again other (inl r) = again_file form again other r.answer
   again_parts form again other (inr r) = let l = steps_short in let m = r.long in absurd (omega (arith, l, m))
 
-  again_read : (form : Form) (again : List ℕ) (other : Status) → IsRead form (file ++ tail_of steps) again other → IsToldAgain form c steps status again other
+  again_read : (form : Form) (again : List ℕ) (other : Status) → IsRead (Report form) (file ++ tail_of steps) again other → IsToldAgain form c steps status again other
   again_read form again other r =
       let parts = printed_split file (text_of steps) r.file r.behind w r.parts in
-      again_parts form again other (subst (λ (xs : List ℕ). IsReplayed form xs (text_of steps) again other) parts.file_is (subst (λ (xs : List ℕ). IsReplayed form r.file xs again other) parts.steps_are r.replayed))
+      again_parts form again other (subst (λ (xs : List ℕ). IsReplayed (Report form) xs (text_of steps) again other) parts.file_is (subst (λ (xs : List ℕ). IsReplayed (Report form) r.file xs again other) parts.steps_are r.replayed))
 
   tail_short : length (file ++ tail_of steps) ≤ 17825799
   tail_short =

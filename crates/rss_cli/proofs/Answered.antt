@@ -18,11 +18,14 @@ use Rattle.world_laws.specs.Shapes.{IsSoundFile}
 use Rattle.event_world.specs.World.{WorldView}
 use Rattle.serial_run.specs.Made.{IsSerial, made_by}
 use Rattle.command_words.specs.declared.command.Form.{Form}
-use Rattle.rss_cli.specs.Answer.{IsPlayed, IsReported, IsWholeReport}
+use Rattle.rss_cli.specs.Answer.{IsPlayed, IsReported, IsTold, IsWholeReport, Tells}
+use Rattle.rss_cli.specs.Disk.{IsDiskAnswer, TellsDisk}
 use Rattle.rss_cli.specs.Played.{HasPlayed}
 use Rattle.rss_cli.specs.Reported.{IsReport}
 use Rattle.rss_cli.specs.Statuses.{status_of}
 use Rattle.rss_cli.specs.declared.answer.Answer.{Answer}
+use Rattle.rss_cli.specs.declared.asked.Asked.{Asked}
+use Rattle.rss_cli.specs.declared.asked.Asked.TheVariants as asked
 use Rattle.rss_cli.specs.declared.status.Status.{Status}
 use Rattle.rss_cli.specs.declared.status.Status.TheVariants.{Unfinished}
 use Rattle.rss_cli.proofs.Plays.{steps_replayed}
@@ -51,13 +54,29 @@ reported form c steps w text status k runs config log report ending =
 log_is : (c : Config) (steps : List Step) (w : WorldView) → HasPlayed c steps w → steps_of w.log ≡ steps
 log_is c steps w p = ap steps_of p.log ∙ steps_replayed steps
 
-is_reported : (form : Form) (c : Config) (steps : List Step) (w : WorldView) (text : List ℕ) (status : Status) → IsSoundFile c → All IsStep steps → HasPlayed c steps w → IsReport form w.config w.state (steps_of w.log) text → status ≡ status_of (ending_of w.config w.state) → IsPlayed form c steps text status
+is_reported : (form : Form) (c : Config) (steps : List Step) (w : WorldView) (text : List ℕ) (status : Status) → IsSoundFile c → All IsStep steps → HasPlayed c steps w → IsReport form w.config w.state (steps_of w.log) text → status ≡ status_of (ending_of w.config w.state) → IsReported form c steps text status
 is_reported form c steps w text status f grammar p report ending =
-    inl (reported form c steps w text status (keeps_promise c steps w.state f grammar p.run.runs) p.run.runs p.config (log_is c steps w p) report ending)
+    reported form c steps w text status (keeps_promise c steps w.state f grammar p.run.runs) p.run.runs p.config (log_is c steps w p) report ending
 
-pub all_reported : {E : Type 0} (form : Form) (c : Config) (steps : List Step) (w : WorldView) (r : Result Answer E) → IsSoundFile c → All IsStep steps → HasPlayed c steps w → IfOk r (λ a. IsReport form w.config w.state (steps_of w.log) a.text.items) → IfOk r (λ a. a.status ≡ status_of (ending_of w.config w.state)) → IfOk r (λ a. IsPlayed form c steps a.text.items a.status)
-all_reported form c steps w (Ok a) f grammar p report ending = is_reported form c steps w a.text.items a.status f grammar p report ending
-all_reported form c steps w (Err e) f grammar p report ending = report
+-- what is told of a disk is so of the steps that the World has made
+is_disk_answer : (replica stop : ℕ) (c : Config) (steps : List Step) (w : WorldView) (text : List ℕ) (status : Status) → HasPlayed c steps w → TellsDisk replica stop w.config w.state (steps_of w.log) text status → IsDiskAnswer replica stop c steps text status
+is_disk_answer replica stop c steps w text status p told = record {
+  state = w.state;
+  run = p.run;
+  told = subst (λ (d : Config). TellsDisk replica stop d w.state steps text status) p.config (subst (λ (l : List Step). TellsDisk replica stop w.config w.state l text status) (log_is c steps w p) told);
+}
+
+is_told : (what : Asked) (c : Config) (steps : List Step) (w : WorldView) (text : List ℕ) (status : Status) → IsSoundFile c → All IsStep steps → HasPlayed c steps w → Tells what w.config w.state (steps_of w.log) text status → IsTold what c steps text status
+is_told (asked.Report form) c steps w text status f grammar p told = is_reported form c steps w text status f grammar p told.0 told.1
+is_told (asked.Disk replica stop) c steps w text status f grammar p told = is_disk_answer replica stop c steps w text status p told
+
+pub all_told : {E : Type 0} (what : Asked) (c : Config) (steps : List Step) (w : WorldView) (r : Result Answer E) → IsSoundFile c → All IsStep steps → HasPlayed c steps w → IfOk r (λ a. Tells what w.config w.state (steps_of w.log) a.text.items a.status) → IfOk r (λ a. IsPlayed what c steps a.text.items a.status)
+all_told what c steps w (Ok a) f grammar p told = inl (is_told what c steps w a.text.items a.status f grammar p told)
+all_told what c steps w (Err e) f grammar p told = told
+
+-- the file of a World that has made all steps is sound
+pub world_sound : (c : Config) (steps : List Step) (w : WorldView) → IsSoundFile c → HasPlayed c steps w → IsSoundFile w.config
+world_sound c steps w f p = subst (λ (d : Config). IsSoundFile d) (sym p.config) f
 
 -- the steps that a driver made are these
 steps_made : (driver : ℕ) (steps : List Step) → steps_of (made_by driver steps) ≡ steps

@@ -1,5 +1,5 @@
 -- Each run of a file that is read keeps what every reported run owes.
-use Rattle.std.proofs.Common.{◌≡◌, ℕ, suc, ◌≤◌, true, List, [], ◌∷◌, Ok, Some, All, refl, arith}
+use Rattle.std.proofs.Common.{◌≡◌, ℕ, suc, ◌≤◌, true, List, [], ◌∷◌, length, Ok, Some, All, refl, arith}
 use Rattle.std.proofs.lemmas.Bool.Decides.{nat_tests}
 use Rattle.std.proofs.lemmas.List.Elements.{All-cons, All-nil}
 use Rattle.std.specs.Prelude.{nat_lt}
@@ -23,6 +23,10 @@ use Rattle.world_laws.specs.Shapes.{IsSoundFile}
 -- a file that is read is sound
 pub read_sound : (file : List ℕ) (c : Config) → config_of file ≡ Ok c → IsSoundFile c
 read_sound file c e = files_are_sound file c e
+
+-- and has few registers
+pub few_registers : (c : Config) → IsSoundFile c → length c.register_services ≤ 64
+few_registers c f = let l = f.within.registers in let same = f.within.listed in omega (arith, same, l)
 
 -- what holds of each of these steps holds of the first and of those behind it
 first_is : (step : Step) (steps : List Step) → All IsStep (step ∷ steps) → IsStep step

@@ -8,6 +8,7 @@ use Rattle.pipeline_lang.specs.declared.config.Config.{Config}
 use Rattle.rss_machine.specs.declared.step.Step.{Step}
 use Rattle.step_text.specs.Spelling.{IsStep}
 use Rattle.rss_cli.specs.Answer.{IsReported, IsRead, IsTooLong}
+use Rattle.rss_cli.specs.declared.asked.Asked.TheVariants.{Report}
 use Rattle.rss_cli.specs.declared.status.Status.{Status}
 
 -- the answer in this form is the report of the same steps, with the same status
@@ -17,7 +18,7 @@ pub record IsToldAgain (form : Form) (c : Config) (steps : List Step) (status : 
 
 -- a report of these steps over this file was printed with its log: what `replay` then answers
 pub record IsReplayable (c : Config) (file : List ℕ) (steps : List Step) (status : Status) : Type 0 where
-  pub answers : (form : Form) (again : List ℕ) (other : Status) → IsRead form (file ++ tail_of steps) again other → IsToldAgain form c steps status again other
+  pub answers : (form : Form) (again : List ℕ) (other : Status) → IsRead (Report form) (file ++ tail_of steps) again other → IsToldAgain form c steps status again other
   pub short : (again : List ℕ) (other : Status) → IsTooLong (file ++ tail_of steps) again other → ⊥
 
 abbrev pub PrintedLogsReplay : Type 0

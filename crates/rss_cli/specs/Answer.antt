@@ -6,12 +6,14 @@ use Rattle.pipeline_lang.specs.declared.config.Config.{Config}
 use Rattle.rss_machine.specs.Endings.{ending_of}
 use Rattle.rss_machine.specs.Headline.{KeepsPromise}
 use Rattle.rss_machine.specs.Serial.{serial}
+use Rattle.rss_machine.specs.State.{State}
 use Rattle.rss_machine.specs.declared.step.Step.{Step}
 use Rattle.rss_machine.specs.declared.step.StepRefusal.{StepRefusal}
 use Rattle.step_text.specs.Spelling.{IsStep, text_of}
 use Rattle.step_text.specs.Texts.{IsBadStep}
 use Rattle.rss_cli.specs.FaultText.{fault_text}
 use Rattle.rss_cli.specs.Played.{IsFirstRefused}
+use Rattle.rss_cli.specs.Disk.{IsDiskAnswer, TellsDisk}
 use Rattle.rss_cli.specs.Reported.{IsReport}
 use Rattle.input_parts.specs.Split.{Splits}
 use Rattle.rss_cli.specs.Statuses.{status_of}
@@ -22,6 +24,8 @@ use Rattle.command_words.specs.declared.command.Command.TheVariants as command
 use Rattle.command_words.specs.declared.command.Form.{Form}
 use Rattle.ending_laws.specs.Laws.{IsCalm, AreUnhurt}
 use Rattle.rss_cli.specs.Generated.{IsGenerated}
+use Rattle.rss_cli.specs.declared.asked.Asked.{Asked}
+use Rattle.rss_cli.specs.declared.asked.Asked.TheVariants as asked
 use Rattle.rss_cli.specs.declared.fault.Fault.TheVariants as fault
 use Rattle.pipeline_tables.specs.declared.fault.FileFault.{FileFault}
 use Rattle.pipeline_file.specs.Document.{config_of}
@@ -43,16 +47,26 @@ pub record IsRefusedStep (c : Config) (steps : List Step) (text : List ℕ) (sta
   pub told : text ≡ fault_text (fault.Refused number cause)
   pub status_is : status ≡ BadStep
 
+-- the text and the status tell what is asked of this state, to which these steps lead
+abbrev pub Tells : Asked → Config → State → List Step → List ℕ → Status → Type 0
+Tells (asked.Report form) c s steps text status = IsReport form c s steps text × (status ≡ status_of (ending_of c s))
+Tells (asked.Disk replica stop) c s steps text status = TellsDisk replica stop c s steps text status
+
+-- no step is refused, and what is asked is told
+abbrev pub IsTold : Asked → Config → List Step → List ℕ → Status → Type 0
+IsTold (asked.Report form) c steps text status = IsReported form c steps text status
+IsTold (asked.Disk replica stop) c steps text status = IsDiskAnswer replica stop c steps text status
+
 -- the answer to a list of steps
-abbrev pub IsPlayed : Form → Config → List Step → List ℕ → Status → Type 0
-IsPlayed form c steps text status = IsReported form c steps text status ⊎ IsRefusedStep c steps text status
+abbrev pub IsPlayed : Asked → Config → List Step → List ℕ → Status → Type 0
+IsPlayed what c steps text status = IsTold what c steps text status ⊎ IsRefusedStep c steps text status
 
 -- the step text spells these steps, each of which the grammar has, and they were played
-pub record IsSpelled (form : Form) (c : Config) (behind text : List ℕ) (status : Status) : Type 0 where
+pub record IsSpelled (what : Asked) (c : Config) (behind text : List ℕ) (status : Status) : Type 0 where
   pub steps : List Step
   pub grammar : All IsStep steps
   pub spelled : behind ≡ text_of steps
-  pub played : IsPlayed form c steps text status
+  pub played : IsPlayed what c steps text status
 
 -- the text names the first line of the step text that is off the grammar
 pub record IsOffGrammar (behind text : List ℕ) (status : Status) : Type 0 where
@@ -63,14 +77,14 @@ pub record IsOffGrammar (behind text : List ℕ) (status : Status) : Type 0 wher
   pub status_is : status ≡ BadStep
 
 -- the answer to a step text
-abbrev pub IsStepsAnswer : Form → Config → List ℕ → List ℕ → Status → Type 0
-IsStepsAnswer form c behind text status = IsSpelled form c behind text status ⊎ IsOffGrammar behind text status
+abbrev pub IsStepsAnswer : Asked → Config → List ℕ → List ℕ → Status → Type 0
+IsStepsAnswer what c behind text status = IsSpelled what c behind text status ⊎ IsOffGrammar behind text status
 
 -- the file says this configuration
-pub record IsValidFile (form : Form) (file behind text : List ℕ) (status : Status) : Type 0 where
+pub record IsValidFile (what : Asked) (file behind text : List ℕ) (status : Status) : Type 0 where
   pub config : Config
   pub says : config_of file ≡ Ok config
-  pub answer : IsStepsAnswer form config behind text status
+  pub answer : IsStepsAnswer what config behind text status
 
 -- the file has this fault first
 pub record IsFaultyFile (file text : List ℕ) (status : Status) : Type 0 where
@@ -90,25 +104,25 @@ pub record AreStepsTooLong (behind text : List ℕ) (status : Status) : Type 0 w
   pub status_is : status ≡ File
 
 -- the step text is no longer than its limit
-pub record IsFileAnswer (form : Form) (file behind text : List ℕ) (status : Status) : Type 0 where
+pub record IsFileAnswer (what : Asked) (file behind text : List ℕ) (status : Status) : Type 0 where
   pub short : length behind ≤ steps_limit
-  pub answer : IsValidFile form file behind text status ⊎ IsFaultyFile file text status
+  pub answer : IsValidFile what file behind text status ⊎ IsFaultyFile file text status
 
 -- the answer to a file and the step text behind it
-abbrev pub IsReplayed : Form → List ℕ → List ℕ → List ℕ → Status → Type 0
-IsReplayed form file behind text status = IsFileAnswer form file behind text status ⊎ AreStepsTooLong behind text status
+abbrev pub IsReplayed : Asked → List ℕ → List ℕ → List ℕ → Status → Type 0
+IsReplayed what file behind text status = IsFileAnswer what file behind text status ⊎ AreStepsTooLong behind text status
 
 -- the longest input: a file, the line `%steps`, and step text
 abbrev pub input_limit : ℕ
 input_limit = 17825799
 
 -- the input was read, and is no longer than its limit
-pub record IsRead (form : Form) (input text : List ℕ) (status : Status) : Type 0 where
+pub record IsRead (what : Asked) (input text : List ℕ) (status : Status) : Type 0 where
   pub short : length input ≤ input_limit
   pub file : List ℕ
   pub behind : List ℕ
   pub parts : Splits input file behind
-  pub replayed : IsReplayed form file behind text status
+  pub replayed : IsReplayed what file behind text status
 
 -- the input is longer than its limit
 pub record IsTooLong (input text : List ℕ) (status : Status) : Type 0 where
@@ -147,8 +161,9 @@ pub record IsReadForPolicy (form : Form) (input text : List ℕ) (status : Statu
 
 -- the answer of a command to an input that was read
 abbrev pub IsReadBy : Command → List ℕ → List ℕ → Status → Type 0
-IsReadBy (command.Replay form) input text status = IsRead form input text status
+IsReadBy (command.Replay form) input text status = IsRead (asked.Report form) input text status
 IsReadBy (command.Serial form) input text status = IsReadForPolicy form input text status
+IsReadBy (command.Disk replica stop) input text status = IsRead (asked.Disk replica stop) input text status
 
 -- the words are this command
 pub record IsServed (words : List (List ℕ)) (input text : List ℕ) (status : Status) : Type 0 where

@@ -8,7 +8,7 @@ use Rattle.rss_wire.specs.declared.refusal.NetRefusal.TheVariants.{NoSuchMessage
 use Rattle.pipeline_tables.specs.FaultText.{fault_text as kind_and_place}
 use Rattle.pipeline_tables.specs.declared.fault.FileFault.{FileFault}
 use Rattle.rss_cli.specs.declared.fault.Fault.{Fault}
-use Rattle.rss_cli.specs.declared.fault.Fault.TheVariants.{Usage, File, TooLong, OffGrammar, Refused}
+use Rattle.rss_cli.specs.declared.fault.Fault.TheVariants.{Usage, File, TooLong, OffGrammar, Refused, NoReplica}
 
 -- the line of a file's fault: its kind and its place
 abbrev pub file_text : FileFault → List ℕ
@@ -30,6 +30,10 @@ refusal_text cause.StageOver = codes "StageOver"
 refusal_text (cause.Message refusal) = codes "Message " ++ net_text refusal
 refusal_text cause.NotEnabled = codes "NotEnabled"
 
+-- the line of a replica that is not there
+abbrev pub no_replica_text : ℕ → List ℕ
+no_replica_text replica = codes "fault replica " ++ decimal replica ++ codes "\n"
+
 -- the line of a fault
 unfoldable pub fault_text : Fault → List ℕ
 fault_text Usage = codes "fault usage\n"
@@ -37,3 +41,4 @@ fault_text (File fault) = file_text fault
 fault_text TooLong = codes "fault file OverLimit file\n"
 fault_text (OffGrammar number column) = codes "fault step " ++ decimal number ++ codes " column " ++ decimal column ++ codes "\n"
 fault_text (Refused number cause) = codes "fault step " ++ decimal number ++ codes " " ++ refusal_text cause ++ codes "\n"
+fault_text (NoReplica replica) = no_replica_text replica

@@ -3,13 +3,15 @@
 ghost use Rattle.std.specs.Prelude.{◌≡◌, ◌≤◌, true, IfOk, length, All};
 ghost use Rattle.rss_machine.specs.Endings.{ending_of};
 ghost use Rattle.rss_machine.specs.Run.{steps_of};
-ghost use Rattle.rss_cli.specs.Answer.{IsRead, IsReplayed, IsPlayed, IsStepsAnswer, IsFileAnswer, IsReadBy, IsReadForPolicy, IsWholeReport, steps_limit, input_limit, is_answer};
+ghost use Rattle.rss_cli.specs.Answer.{IsRead, IsReplayed, IsPlayed, IsStepsAnswer, IsFileAnswer, IsReadBy, IsReadForPolicy, IsWholeReport, Tells, steps_limit, input_limit, is_answer};
 ghost use Rattle.rss_cli.specs.FaultText.{fault_text};
 ghost use Rattle.rss_cli.specs.Reported.{IsReport};
 ghost use Rattle.rss_cli.specs.Statuses.{status_of};
 ghost use Rattle.step_text.specs.Spelling.{IsStep};
 ghost use Rattle.world_laws.specs.Shapes.{IsSoundFile};
 
+use crate::asked::Asked;
+use crate::disk::disk_answer;
 use crate::fault::Fault;
 use crate::fault_lines::fault_line;
 use crate::play::{PlayError, play};
@@ -42,19 +44,20 @@ pub fn answer_of(alloc: Global, command: Command, input: &[u8]) -> Result<Answer
     ensures status { IfOk result (λ a. is_answer a.status ≡ true) }
 {
     match command {
-        Command::Replay(form) => replay_answer(alloc, form, input),
+        Command::Replay(form) => replay_answer(alloc, Asked::Report(form), input),
         Command::Serial(form) => serial_answer(alloc, form, input),
+        Command::Disk(replica, stop) => replay_answer(alloc, Asked::Disk(replica, stop), input),
     }
 }
 
 // The answer to a file and the step text behind it, in one input.
-fn replay_answer(alloc: Global, form: Form, input: &[u8]) -> Result<Answer, AllocError>
+fn replay_answer(alloc: Global, asked: Asked, input: &[u8]) -> Result<Answer, AllocError>
     requires short { length input.now ≤ input_limit }
-    ensures answer { IfOk result (λ a. IsRead form input.now a.text.items a.status) }
+    ensures answer { IfOk result (λ a. IsRead asked input.now a.text.items a.status) }
     ensures status { IfOk result (λ a. is_answer a.status ≡ true) }
 {
     let (file, behind) = split(input);
-    replayed(alloc, form, file, behind)
+    replayed(alloc, asked, file, behind)
 }
 
 // The answer to a file, by the steps of the serial policy.
@@ -81,25 +84,30 @@ fn policy_answer(alloc: Global, form: Form, config: Config) -> Result<Answer, Al
 }
 
 // The answer to a file and the step text behind it.
-fn replayed(alloc: Global, form: Form, file: &[u8], behind: &[u8]) -> Result<Answer, AllocError>
-    ensures answer { IfOk result (λ a. IsReplayed form file.now behind.now a.text.items a.status) }
+fn replayed(alloc: Global, asked: Asked, file: &[u8], behind: &[u8]) -> Result<Answer, AllocError>
+    ensures answer { IfOk result (λ a. IsReplayed asked file.now behind.now a.text.items a.status) }
     ensures status { IfOk result (λ a. is_answer a.status ≡ true) }
 {
     if behind.len() > LONGEST_STEPS {
         fault_answer(alloc, Fault::TooLong, Status::File)
     } else {
-        file_answer(alloc, form, file, behind)
+        file_answer(alloc, asked, file, behind)
     }
 }
 
 // The answer to a file and a step text that is not too long.
-fn file_answer(alloc: Global, form: Form, file: &[u8], behind: &[u8]) -> Result<Answer, AllocError>
+fn file_answer(
+    alloc: Global,
+    asked: Asked,
+    file: &[u8],
+    behind: &[u8],
+) -> Result<Answer, AllocError>
     requires short { length behind.now ≤ steps_limit }
-    ensures answer { IfOk result (λ a. IsFileAnswer form file.now behind.now a.text.items a.status) }
+    ensures answer { IfOk result (λ a. IsFileAnswer asked file.now behind.now a.text.items a.status) }
     ensures status { IfOk result (λ a. is_answer a.status ≡ true) }
 {
     match read(alloc, file) {
-        Ok(config) => steps_answer(alloc, form, config, behind),
+        Ok(config) => steps_answer(alloc, asked, config, behind),
         Err(FileError::Fault(first)) => fault_answer(alloc, Fault::File(first), Status::File),
         Err(FileError::OutOfMemory) => Err(AllocError),
     }
@@ -108,17 +116,17 @@ fn file_answer(alloc: Global, form: Form, file: &[u8], behind: &[u8]) -> Result<
 // The answer to the step text of a configuration.
 fn steps_answer(
     alloc: Global,
-    form: Form,
+    asked: Asked,
     config: Config,
     behind: &[u8],
 ) -> Result<Answer, AllocError>
     requires sound { IsSoundFile config }
     requires short { length behind.now ≤ steps_limit }
-    ensures answer { IfOk result (λ a. IsStepsAnswer form config behind.now a.text.items a.status) }
+    ensures answer { IfOk result (λ a. IsStepsAnswer asked config behind.now a.text.items a.status) }
     ensures status { IfOk result (λ a. is_answer a.status ≡ true) }
 {
     match read_steps(alloc, behind) {
-        Ok(steps) => played(alloc, form, config, steps.as_slice()),
+        Ok(steps) => played(alloc, asked, config, steps.as_slice()),
         Err(StepTextError::BadStep { number, column }) => {
             let fault = Fault::OffGrammar {
                 number: u64::from(number),
@@ -131,18 +139,32 @@ fn steps_answer(
 }
 
 // The answer to a list of steps of a configuration.
-fn played(alloc: Global, form: Form, config: Config, steps: &[Step]) -> Result<Answer, AllocError>
+#[tactic(auto, using(crate::proofs::Answered::world_sound))]
+fn played(alloc: Global, asked: Asked, config: Config, steps: &[Step]) -> Result<Answer, AllocError>
     requires sound { IsSoundFile config }
     requires grammar { All IsStep steps.now }
-    ensures answer { IfOk result (λ a. IsPlayed form config steps.now a.text.items a.status) }
+    ensures answer { IfOk result (λ a. IsPlayed asked config steps.now a.text.items a.status) }
     ensures status { IfOk result (λ a. is_answer a.status ≡ true) }
 {
     match play(alloc, config, steps) {
-        Ok(world) => report_answer(alloc, form, &world),
+        Ok(world) => asked_answer(alloc, asked, &world),
         Err(PlayError::Refused { number, cause }) => {
             fault_answer(alloc, Fault::Refused { number, cause }, Status::BadStep)
         }
         Err(PlayError::OutOfMemory) => Err(AllocError),
+    }
+}
+
+// The answer that tells what is asked of a World.
+fn asked_answer(alloc: Global, asked: Asked, world: &World) -> Result<Answer, AllocError>
+    requires sound { IsSoundFile world.now.config }
+    ensures told { IfOk result (λ a.
+        Tells asked world.now.config world.now.state (steps_of world.now.log) a.text.items a.status) }
+    ensures status { IfOk result (λ a. is_answer a.status ≡ true) }
+{
+    match asked {
+        Asked::Report(form) => Ok(report_answer(alloc, form, world)?),
+        Asked::Disk(replica, stop) => disk_answer(alloc, replica, stop, world),
     }
 }
 

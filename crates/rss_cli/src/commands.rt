@@ -47,8 +47,8 @@ pub fn top<S: Source, K: Sink>(
     still_top(alloc, words, source, sink)
 }
 
-/// The commands that wait for nobody: `replay` and `serial`, each with an option, and `gen` with a number. Other
-/// words are refused before a byte is read.
+/// The commands that wait for nobody: `replay` and `serial`, each with an option, `disk` with a replica and a call
+/// to stop at, and `gen` with a number. Other words are refused before a byte is read.
 pub fn still_top<S: Source, K: Sink>(
     alloc: Global,
     words: &[String],

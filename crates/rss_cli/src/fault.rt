@@ -16,4 +16,6 @@ pub enum Fault {
     OffGrammar { number: u64, column: u64 },
     /// The step of this number, counted from 1, is refused by the machine.
     Refused { number: u64, cause: StepRefusal },
+    /// The service `reg` has no replica of this number.
+    NoReplica(u64),
 }

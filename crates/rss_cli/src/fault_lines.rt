@@ -1,7 +1,7 @@
 //! The line of a fault.
 
 ghost use Rattle.std.specs.Prelude.{◌≡◌, ◌++◌, OnOk, IfOk};
-ghost use Rattle.rss_cli.specs.FaultText.{file_text, net_text, refusal_text, fault_text};
+ghost use Rattle.rss_cli.specs.FaultText.{file_text, net_text, refusal_text, no_replica_text, fault_text};
 
 use crate::fault::Fault;
 use pipeline_file::FileFault;
@@ -51,6 +51,15 @@ fn put_refusal(alloc: Global, out: &mut Vec<u8>, cause: StepRefusal) -> Result<(
     }
 }
 
+// The fault of a replica that is not there.
+fn put_no_replica(alloc: Global, out: &mut Vec<u8>, replica: u64) -> Result<(), AllocError>
+    ensures { OnOk result (out.new.items ≡ out.old.items ++ no_replica_text replica) }
+{
+    put(out, b"fault replica ")?;
+    put_number(alloc, out, replica)?;
+    put(out, b"\n")
+}
+
 #[tactic(auto, unfolding(crate::specs::FaultText::fault_text))]
 fn put_fault(alloc: Global, out: &mut Vec<u8>, fault: Fault) -> Result<(), AllocError>
     ensures { OnOk result (out.new.items ≡ out.old.items ++ fault_text fault) }
@@ -73,6 +82,7 @@ fn put_fault(alloc: Global, out: &mut Vec<u8>, fault: Fault) -> Result<(), Alloc
             put_refusal(alloc, out, cause)?;
             put(out, b"\n")
         }
+        Fault::NoReplica(replica) => put_no_replica(alloc, out, replica),
     }
 }
 

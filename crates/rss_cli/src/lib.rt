@@ -2,7 +2,9 @@
 #![tactic(auto)]
 
 mod answer;
+mod asked;
 mod commands;
+mod disk;
 mod fault;
 mod fault_lines;
 mod generated;

@@ -8,7 +8,7 @@ use rss_machine::Ending;
 /// How a command ended.
 #[derive(Clone, Copy, PartialEq, Eq)]
 pub enum Status {
-    /// All stages are settled, and none was killed or unavailable.
+    /// All stages are settled, and none was killed or unavailable; or a file was generated, or a disk told of.
     Done,
     /// There is a step to come.
     Unfinished,
@@ -20,7 +20,7 @@ pub enum Status {
     Hurt,
     /// The words are no command.
     Usage,
-    /// The file was refused.
+    /// The file was refused, or has no such replica.
     File,
     /// A step was off the grammar, or was refused.
     BadStep,

@@ -1,0 +1,17 @@
+pub mod Ballots
+pub mod Lists
+pub mod Majorities
+pub mod Sending
+pub mod Moves
+pub mod After
+pub mod Bodies
+pub mod Silent
+pub mod Voting
+pub mod Taken
+pub mod Proposing
+pub mod Beginning
+pub mod Noting
+pub mod Applying
+pub mod Steps
+pub mod Arriving
+pub mod Runs

@@ -1,0 +1,5 @@
+pub mod Ballots
+pub mod Groups
+pub mod Rows
+pub mod Steps
+pub mod OneShard

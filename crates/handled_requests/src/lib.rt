@@ -1,0 +1,6 @@
+//! Code: the requests that a replica handled in a run.
+#![tactic(auto)]
+
+mod requests;
+
+pub use requests::handled;
